@@ -1,0 +1,56 @@
+-- A loop that goes once through the first n places of a list, replaces the value at each by what a state and the value give, and
+-- goes on with another state. `f s vs` is what such a loop makes of the values vs from the state s on; so it is given by its first
+-- step: f s (v ∷ vs) ≡ out s v ∷ f (next s v) vs. What the loop leaves at its end is then the same told from any turn on, which is
+-- the loop's invariant. Behind that: a loop over n places of a list, where n may be larger than the list is long.
+-- Assumes nothing.
+use mathlib.Core.Path.{_≡_, ap₂, _∙_, sym}
+use mathlib.Core.List.{List, [], _∷_, _++_, map, append-nil}
+use Prim.Native.Nat.{ℕ, suc, _+_, _%_, _^_, _≤_, _<_, min}
+use native.Mathlib.Nat.{le-of-eq}
+use native.Mathlib.Decide.{decLe}
+use native.Mathlib.Numerals.{add-one}
+use native.Mathlib.Omega.{arith}
+use lib.ListN.{length, getD, take, drop, set, take-append-drop, drop-of-length-le}
+use lib.Seq.{slice, slice-cons, slice-empty, take-all, take-suc-set, take-set-lt, drop-set-lt, append-snoc}
+use Rattle.compression.specs.Restored.{inPlace}
+
+-- the value at place i, and those behind it, which a store at i leaves
+pub slice-turn : (l : List ℕ) (i n a : ℕ) → i < n → n ≤ length l → slice i n l ≡ getD l i 0 ∷ slice (i + 1) n (set l i a)
+slice-turn l i n a h k = rw (add-one, take-set-lt n l i a h, drop-set-lt (suc i) (take n l) i a (omega arith)) (slice-cons i n l 0 h k)
+
+-- what the loop leaves, told from place i and state s on
+abbrev pub finished : {S : Type 0} → (S → List ℕ → List ℕ) → ℕ → S → ℕ → List ℕ → List ℕ
+finished f n s i l = take i l ++ (f s (slice i n l) ++ drop n l)
+
+module _ {S : Type 0} (f : S → List ℕ → List ℕ) (out : S → ℕ → ℕ) (next : S → ℕ → S)
+    (turns : (s : S) (v : ℕ) (vs : List ℕ) → f s (v ∷ vs) ≡ out s v ∷ f (next s v) vs) where
+  pub turn : (n : ℕ) (s : S) (i : ℕ) (l : List ℕ) → i < n → n ≤ length l
+      → finished f n s i l ≡ finished f n (next s (getD l i 0)) (i + 1) (set l i (out s (getD l i 0)))
+  turn n s i l h k =
+      let o : ℕ = out s (getD l i 0) in
+      rw (slice-turn l i n o h k, turns, add-one, take-suc-set l i o (omega arith), drop-set-lt n l i o h, append-snoc)
+
+module _ {S : Type 0} (f : S → List ℕ → List ℕ) (none : (s : S) → f s [] ≡ []) where
+  -- behind the last place nothing is left to do
+  pub end : (n : ℕ) (s : S) (i : ℕ) (l : List ℕ) → i ≡ n → finished f n s i l ≡ l
+  end n s i l e = rw (e, slice-empty n l, none s) (take-append-drop n l)
+
+  -- where n is the list's length the whole list is replaced
+  pub whole : (n : ℕ) (s : S) (l : List ℕ) → length l ≡ n → finished f n s 0 l ≡ f s l
+  whole n s l h = rw (take-all n l (omega arith), drop-of-length-le l (le-of-eq h)) (append-nil (f s l))
+
+-- n places of a list are all of them where n is larger
+module _ (m n : ℕ) (l : List ℕ) (clamps : m ≡ min n (length l)) where
+  clamped : (take m l ≡ take n l) × (drop m l ≡ drop n l)
+  clamped = go (decLe (length l) n)
+    where
+      go : Dec (length l ≤ n) → (take m l ≡ take n l) × (drop m l ≡ drop n l)
+      go (yes h) = (take-all m l (omega arith) ∙ sym (take-all n l h), drop-of-length-le l {i = m} (omega arith) ∙ sym (drop-of-length-le l h))
+      go (no h) = let few : m ≡ n = omega arith in (rw few, rw few)
+
+  pub take-clamped : take m l ≡ take n l
+  take-clamped = clamped .0
+
+  pub inPlace-clamped : (f : List ℕ → List ℕ) → inPlace m (f (take m l)) l ≡ inPlace n (f (take n l)) l
+  unfolding inPlace
+  inPlace-clamped f = ap₂ (λ (vs rest : List ℕ). map (λ k. k % 2 ^ 32) (f vs) ++ rest) (clamped .0) (clamped .1)

@@ -1,0 +1,82 @@
+-- A skip entry reads back. The five bytes in front are the same whatever the option: a 32-bit number is the sum of its four bytes,
+-- each times its weight, and a width is below 32, so that neither it nor the strict bit above it disturbs the other. Only what
+-- follows them, the frequency width first, goes by the option.
+-- Assumes nothing.
+use mathlib.Core.Bool.{true, false, and-eq-true-iff}
+use mathlib.Core.List.{List, [], _∷_, _++_}
+use mathlib.Core.Path.{_≡_, refl, ap, sym, _∙_}
+use Prim.Native.Nat.{ℕ, _+_, _/_, _%_, _^_, _≤_, _<_}
+use native.Mathlib.Nat.{add-zero, add-assoc, mod-eq-of-lt, div-div-eq-div-mul}
+use native.Mathlib.Omega.{arith}
+use borrow.Author.Tests.{leb-true, ltb-true}
+use lib.ListN.{length}
+use lib.Seq.{getD-append-add, getD-at}
+use Rattle.format.specs.declared.IndexRecordOption.{IndexRecordOption}
+use Rattle.format.specs.declared.IndexRecordOption.the-variants.{Basic, WithFreqs}
+use Rattle.format.specs.declared.BlockInfo.{BlockInfo}
+use Rattle.format.specs.Basics.{word, le32, TERMINATED}
+use Rattle.format.specs.SkipEntry.{hasFreq, entrySize, freqWidthOf, readEntry, freqPart, writeEntry, blockSize, entryFits}
+
+-- ---- 32-bit numbers
+
+pub le32-length : (n : ℕ) → length (le32 n) ≡ 4
+unfolding le32
+le32-length n = refl
+
+-- bytes in front move a word's place
+pub word-append : (a bs : List ℕ) (p : ℕ) → word (a ++ bs) (length a + p) ≡ word bs p
+unfolding word
+word-append a bs p = simp (add-assoc, getD-append-add)
+
+-- the sum of the four, of which the highest needs no remainder
+word-here : (n : ℕ) (rest : List ℕ) → n < 2 ^ 32 → word (le32 n ++ rest) 0 ≡ n
+unfolding word le32
+word-here n rest h =
+    let top : n / 16777216 % 256 ≡ n / 16777216 = mod-eq-of-lt (omega arith) in
+    omega (arith, div-div-eq-div-mul n 256 256, div-div-eq-div-mul n 65536 256)
+
+pub word-le32 : (n : ℕ) (a rest : List ℕ) → n < 2 ^ 32 → word (a ++ (le32 n ++ rest)) (length a) ≡ n
+word-le32 n a rest h =
+    ap (word (a ++ (le32 n ++ rest))) (sym (add-zero (length a))) ∙ word-append a (le32 n ++ rest) 0 ∙ word-here n rest h
+
+-- ---- entries
+
+freqPart-length : (option : IndexRecordOption) (fw : ℕ) → 5 + length (freqPart option fw) ≡ entrySize option
+unfolding freqPart entrySize
+freqPart-length Basic fw = refl
+freqPart-length WithFreqs fw = refl
+
+pub entry-length : (option : IndexRecordOption) (last dw fw : ℕ) → length (writeEntry option last dw fw) ≡ entrySize option
+unfolding writeEntry le32
+entry-length option last dw fw = omega (arith, freqPart-length option fw)
+
+freqPart-reads-back : (option : IndexRecordOption) (fw : ℕ) (five rest : List ℕ)
+    → length five ≡ 5 → (hasFreq option ≡ false → fw ≡ 0) → freqWidthOf option (five ++ (freqPart option fw ++ rest)) ≡ fw
+unfolding freqPart freqWidthOf hasFreq
+freqPart-reads-back Basic fw five rest l h = sym (h refl)
+freqPart-reads-back WithFreqs fw five rest l h = getD-at five fw _ 0 5 l
+
+pub entry-reads-back : (option : IndexRecordOption) (last dw fw : ℕ) (rest : List ℕ)
+    → last < 2 ^ 32 → dw < 32 → (hasFreq option ≡ false → fw ≡ 0)
+    → readEntry option (writeEntry option last dw fw ++ rest)
+    ≡ record { «last_doc» = last; «doc_width» = dw; strict = true; «freq_width» = fw }
+unfolding readEntry writeEntry
+entry-reads-back option last dw fw rest l d f =
+    let width : (dw + 64) % 32 ≡ dw = omega arith in
+    let high : (dw + 64) / 64 ≡ 1 = omega arith in
+    rw (width, high, word-here last _ l, freqPart-reads-back option fw (le32 last ++ ((dw + 64) ∷ [])) rest refl f)
+
+-- question 5 answered yes
+pub record EntryFits (least left : ℕ) (e : BlockInfo) : Type 0 where
+  pub freq-width : e .«freq_width» ≤ 32
+  pub last-least : least ≤ e .«last_doc»
+  pub last-below : e .«last_doc» < TERMINATED
+  pub bytes : blockSize e ≤ left
+
+pub entryFits-true : (least left : ℕ) (e : BlockInfo) → entryFits least left e ≡ true → EntryFits least left e
+unfolding entryFits
+entryFits-true least left e h =
+    let p = and-eq-true-iff _ _ .0 h in
+    let q = and-eq-true-iff _ _ .0 (p .1) in
+    let r = and-eq-true-iff _ _ .0 (q .0) in
+    record { freq-width = leb-true _ _ (p .0); last-least = leb-true _ _ (r .0); last-below = ltb-true _ _ (r .1); bytes = leb-true _ _ (q .1) }

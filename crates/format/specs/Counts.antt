@@ -1,0 +1,36 @@
+-- Rank and total: how many documents lie below a target, and the sum of their frequencies.
+-- Assumes nothing.
+use mathlib.Core.Bool.{Bool, true, false, _||_ as or}
+use mathlib.Core.List.{List, [], _∷_}
+use Prim.Native.Nat.{ℕ, zero, suc, _+_}
+use lib.ListN.{length, take}
+use lib.Dec.{eqb, leb, ltb}
+use Rattle.format.specs.Basics.{Outcome, ok, refused, ask, choose, TERMINATED}
+use Rattle.format.specs.Refusal.{targetTooLarge}
+use Rattle.format.specs.Reading.{Reading, reading, docsOf, freqsOf}
+
+-- how many documents at the front lie below the target
+unfoldable pub countBelow : ℕ → List ℕ → ℕ
+unfolding choose
+countBelow target [] = 0
+countBelow target (d ∷ ds) = choose (ltb d target) (λ _. 1 + countBelow target ds) (λ _. 0)
+
+unfoldable pub sum : List ℕ → ℕ
+sum [] = 0
+sum (f ∷ fs) = f + sum fs
+
+-- the frequencies below the target, if the walk comes to a document at or above it or to the end
+unfoldable pub totalIn : ℕ → Reading → Outcome ℕ
+unfolding choose countBelow sum docsOf freqsOf
+totalIn target r =
+    let n : ℕ = countBelow target (docsOf (r .blocks)) in
+    choose (or (ltb n (length (docsOf (r .blocks)))) (eqb (r .refusal) 0))
+    (λ _. ok (sum (take n (freqsOf (r .blocks)))))
+    (λ _. refused (r .refusal))
+
+-- question 10, then a walk with frequencies requested
+unfoldable pub total : ℕ → ℕ → List ℕ → ℕ → Outcome ℕ
+unfolding ask totalIn reading
+total mode count bs target =
+    ask (leb target TERMINATED) targetTooLarge λ _.
+    totalIn target (reading (record { mode = mode; requested = 1; count = count }) bs)

@@ -1,0 +1,13 @@
+pub mod Basics
+pub mod Refusal
+pub mod Vint
+pub mod Bitpacking
+pub mod Values
+pub mod SkipEntry
+pub mod Written
+pub mod Accepted
+pub mod Layout
+pub mod Reading
+pub mod Counts
+pub mod Model
+pub mod Worked

@@ -1,0 +1,198 @@
+-- The cursor's calls are the model's. Opening on a sound image and then any list of steps and seeks, refused ones too, answers what the
+-- model answers, and leaves the cursor at the model's position with as many blocks counted as the model has visited. By induction on
+-- the calls: each leaves cursor and model together, a refused one both as they were.
+-- Assumes nothing.
+use mathlib.Core.List.{List, [], _∷_, map}
+use mathlib.Core.Logic.{⊎-elim}
+use mathlib.Core.Path.{_≡_, refl, ap₂}
+use Prim.Native.Nat.{ℕ, _≤_, _<_}
+use native.Mathlib.Nat.{eq-or-lt-of-le}
+use native.Mathlib.Decide.{decLe}
+use native.Mathlib.Omega.{arith}
+use borrow.Author.Tests.{le-leb, lt-leb, eq-eqb, ne-eqb}
+use lib.ListN.{length}
+use Rattle.format.specs.declared.Term.{Term}
+use Rattle.format.specs.Basics.{refused, choose, TERMINATED}
+use Rattle.format.specs.Refusal.{targetTooLarge}
+use Rattle.format.specs.Reading.{reading, docsOf, freqsOf}
+use Rattle.format.specs.Model.{Call, step, seek, State, after, here, answer, answersFrom, answers, afterAll, entriesRead}
+use Rattle.format.specs.Model as model
+use Rattle.format.proofs.Sound.{Sound, sound-image}
+use Rattle.format.proofs.Visited.{seek-stands}
+use Rattle.segment_postings.specs.declared.Answer.{Answer}
+use Rattle.segment_postings.specs.declared.Answer.the-variants.{Refused}
+use Rattle.segment_postings.specs.declared.Moved.{Moved}
+use Rattle.segment_postings.specs.declared.SegmentPostings.{SegmentPostings}
+use Rattle.segment_postings.specs.Cursor.{position, moved, opened, stepping, advanced, seeking, sought}
+use Rattle.segment_postings.proofs.Turns.{moved-ok, opened-is}
+use Rattle.segment_postings.proofs.Agrees.{shown, Agrees, docs-count, entries-read, opening-agrees, answer-agrees, stepping-agrees}
+use Rattle.segment_postings.proofs.SeekAgrees.{seeking-end, seeking-refused, seeking-agrees}
+
+-- ---- a list of calls on the cursor
+
+unfoldable pub called : SegmentPostings → List ℕ → Term → Call → Moved
+unfolding advanced sought
+called c bs t step = advanced c bs t
+called c bs t (seek target) = sought c bs t target
+
+-- each call gets the cursor as the last one left it
+unfoldable pub callsFrom : List ℕ → Term → SegmentPostings → List Call → List Answer
+unfolding called
+callsFrom bs t c [] = []
+callsFrom bs t c (call ∷ cs) = let m : Moved = called c bs t call in m .answer ∷ callsFrom bs t (m .cursor) cs
+
+-- what opening and then the calls answer
+unfoldable pub calls : List ℕ → Term → List Call → List Answer
+unfolding opened callsFrom
+calls bs t cs = let m : Moved = opened bs t in m .answer ∷ callsFrom bs t (m .cursor) cs
+
+-- the cursor after them
+unfoldable pub cursorAfter : List ℕ → Term → SegmentPostings → List Call → SegmentPostings
+unfolding called
+cursorAfter bs t c [] = c
+cursorAfter bs t c (call ∷ cs) = cursorAfter bs t (called c bs t call .cursor) cs
+
+-- ---- one turn of each
+
+callsFrom-none : (bs : List ℕ) (t : Term) (c : SegmentPostings) → callsFrom bs t c [] ≡ []
+unfolding callsFrom
+callsFrom-none bs t c = refl
+
+callsFrom-more : (bs : List ℕ) (t : Term) (c : SegmentPostings) (call : Call) (cs : List Call)
+    → callsFrom bs t c (call ∷ cs) ≡ called c bs t call .answer ∷ callsFrom bs t (called c bs t call .cursor) cs
+unfolding callsFrom
+callsFrom-more bs t c call cs = refl
+
+calls-is : (bs : List ℕ) (t : Term) (cs : List Call)
+    → calls bs t cs ≡ opened bs t .answer ∷ callsFrom bs t (opened bs t .cursor) cs
+unfolding calls
+calls-is bs t cs = refl
+
+called-step : (c : SegmentPostings) (bs : List ℕ) (t : Term) → called c bs t step ≡ moved t c (stepping c bs t)
+unfolding called advanced
+called-step c bs t = refl
+
+called-seek : (c : SegmentPostings) (bs : List ℕ) (t : Term) (target : ℕ)
+    → called c bs t (seek target) ≡ moved t c (seeking c bs t target)
+unfolding called sought
+called-seek c bs t target = refl
+
+moved-refused : (t : Term) (before : SegmentPostings) (n : ℕ)
+    → moved t before (refused n) ≡ record { answer = Refused n; cursor = before }
+unfolding moved
+moved-refused t before n = refl
+
+shown-refused : (n : ℕ) → shown (Refused n) ≡ model.refused n
+unfolding shown
+shown-refused n = refl
+
+answersFrom-none : (ds fs : List ℕ) (m : State) → answersFrom ds fs m [] ≡ []
+unfolding answersFrom
+answersFrom-none ds fs m = refl
+
+answersFrom-more : (ds fs : List ℕ) (m : State) (call : Call) (cs : List Call)
+    → answersFrom ds fs m (call ∷ cs) ≡ answer ds fs m call ∷ answersFrom ds fs (after ds m call) cs
+unfolding answersFrom
+answersFrom-more ds fs m call cs = refl
+
+answers-is : (ds fs : List ℕ) (cs : List Call) → answers ds fs cs ≡ here ds fs model.opened ∷ answersFrom ds fs model.opened cs
+unfolding answers
+answers-is ds fs cs = refl
+
+-- ---- what the model answers
+
+module _ (ds fs : List ℕ) (m : State) where
+  answer-step : answer ds fs m step ≡ here ds fs (after ds m step)
+  unfolding answer
+  answer-step = refl
+
+  module _ (target : ℕ) where
+    answer-seek : target ≤ TERMINATED → answer ds fs m (seek target) ≡ here ds fs (after ds m (seek target))
+    unfolding answer choose
+    answer-seek h = rw (le-leb target TERMINATED h)
+
+    answer-end : TERMINATED < target → m .position ≡ length ds → answer ds fs m (seek target) ≡ here ds fs m
+    unfolding answer choose
+    answer-end h e = rw (seek-stands ds m target h, lt-leb target TERMINATED h, eq-eqb (m .position) (length ds) e)
+
+    answer-refused : TERMINATED < target → m .position < length ds → answer ds fs m (seek target) ≡ model.refused targetTooLarge
+    unfolding answer choose
+    answer-refused h l = rw (lt-leb target TERMINATED h, ne-eqb (m .position) (length ds) (λ e. omega arith))
+
+-- ---- the calls
+
+module _ {t : Term} {bs : List ℕ} (s : Sound t bs) where
+  abbrev docs : List ℕ
+  docs = docsOf (reading t bs .blocks)
+
+  abbrev freqs : List ℕ
+  freqs = freqsOf (reading t bs .blocks)
+
+  -- what a call gave is what the model's gives
+  abbrev Shows : State → Call → Moved → Type 0
+  Shows m call r = (shown (r .answer) ≡ answer docs freqs m call) × Agrees s (r .cursor) (after docs m call)
+
+  module _ {c : SegmentPostings} {m : State} (k : Agrees s c m) where
+    -- a target above TERMINATED
+    high-shows : (target : ℕ) → TERMINATED < target → Shows m (seek target) (called c bs t (seek target))
+    high-shows target high =
+        ⊎-elim
+        (λ (e : position c ≡ t .count).
+        let there : m .position ≡ length docs = omega (arith, k .same-position, docs-count s) in
+        rw (called-seek, seeking-end s (k .holds) target e, moved-ok)
+        (rw (answer-end docs freqs m target high there, seek-stands docs m target high) (answer-agrees s k, k)))
+        (λ (l : position c < t .count).
+        let there : m .position < length docs = omega (arith, k .same-position, docs-count s) in
+        rw (called-seek, seeking-refused s (k .holds) target high l, moved-refused, shown-refused)
+        (rw (answer-refused docs freqs m target high there, seek-stands docs m target high) (refl, k)))
+        (eq-or-lt-of-le (k .holds .position-most))
+
+    call-shows : (call : Call) → Shows m call (called c bs t call)
+    call-shows step =
+        let p = stepping-agrees s k in
+        rw (called-step, p .2, moved-ok, answer-step) (answer-agrees s (p .1), p .1)
+    call-shows (seek target) = elim (decLe target TERMINATED) [
+      | yes most ↦
+          let p = seeking-agrees s k target most in
+          rw (called-seek, p .2, moved-ok, answer-seek docs freqs m target most) (answer-agrees s (p .1), p .1)
+      | no high ↦ high-shows target (omega arith)
+    ]
+
+  from-shows : {c : SegmentPostings} {m : State} → Agrees s c m → (cs : List Call)
+      → map shown (callsFrom bs t c cs) ≡ answersFrom docs freqs m cs
+  from-shows k [] = rw (callsFrom-none, answersFrom-none)
+  from-shows k (call ∷ cs) =
+      let p = call-shows k call in
+      rw (callsFrom-more, answersFrom-more) (ap₂ _∷_ (p .0) (from-shows (p .1) cs))
+
+  from-agrees : {c : SegmentPostings} {m : State} → Agrees s c m → (cs : List Call)
+      → Agrees s (cursorAfter bs t c cs) (afterAll docs m cs)
+  unfolding cursorAfter afterAll
+  from-agrees k [] = k
+  from-agrees k (call ∷ cs) = from-agrees (call-shows k call .1) cs
+
+pub calls-show : (t : Term) (bs : List ℕ) → reading t bs .refusal ≡ 0 → (cs : List Call)
+    → map shown (calls bs t cs) ≡ answers (docsOf (reading t bs .blocks)) (freqsOf (reading t bs .blocks)) cs
+calls-show t bs sound cs =
+    let s = sound-image t bs sound in
+    let p = opening-agrees s in
+    rw (calls-is, opened-is, p .2, moved-ok, answers-is) (ap₂ _∷_ (answer-agrees s (p .1)) (from-shows s (p .1) cs))
+
+-- a cursor beside the model's state
+pub record Counts (t : Term) (c : SegmentPostings) (m : State) : Type 0 where
+  pub at-position : position c ≡ m .position
+  pub unpacked-visited : c .unpacked ≡ length (m .visited)
+  pub entries-are : c .entries ≡ entriesRead (t .count) (m .position)
+
+pub calls-count : (t : Term) (bs : List ℕ) → reading t bs .refusal ≡ 0 → (cs : List Call)
+    → Counts t (cursorAfter bs t (opened bs t .cursor) cs) (afterAll (docsOf (reading t bs .blocks)) model.opened cs)
+calls-count t bs sound cs =
+    let s = sound-image t bs sound in
+    let p = opening-agrees s in
+    let k = from-agrees s (p .1) cs in
+    rw (opened-is, p .2, moved-ok)
+    (record {
+      at-position = k .same-position;
+      unpacked-visited = k .same-count;
+      entries-are = rw (← k .same-position) (entries-read s (k .holds));
+    })

@@ -1,0 +1,105 @@
+-- The definitions of the cursor, each opened by one turn, so that a proof sees their parts under their names.
+-- Assumes nothing.
+use mathlib.Core.Bool.{_&&_ as and}
+use mathlib.Core.List.{List}
+use mathlib.Core.Path.{_≡_, refl}
+use Prim.Native.Nat.{ℕ, zero, suc, _+_, _-_, _*_}
+use lib.ListN.{length, drop, getD}
+use lib.Dec.{eqb, leb, ltb}
+use Rattle.format.specs.declared.BlockInfo.{BlockInfo}
+use Rattle.format.specs.declared.IndexRecordOption.{IndexRecordOption}
+use Rattle.format.specs.declared.Layout.{Layout}
+use Rattle.format.specs.declared.Term.{Term}
+use Rattle.format.specs.Basics.{ok, andThen, ask, choose, TERMINATED}
+use Rattle.format.specs.Refusal.{entryBroken, targetTooLarge, stateBroken}
+use Rattle.format.specs.SkipEntry.{hasFreq, entrySize, readEntry, blockSize, entryFits}
+use Rattle.format.specs.Layout.{layout, fullBlocks, tailLength, skipBytes}
+use Rattle.format.specs.Reading.{fullBlock, tailBlock}
+use Rattle.segment_postings.specs.declared.SegmentPostings.{SegmentPostings}
+use Rattle.segment_postings.specs.declared.Answer.the-variants.{At}
+use Rattle.segment_postings.specs.declared.Found.{Found}
+use Rattle.segment_postings.specs.Cursor.{tailInfo, findBlock, loadBlock, holding, landing, position, inBounds, answerAt}
+use Rattle.segment_postings.specs.Cursor.{moved, blank, opening, opened, atPlace, leastAfter, leaving, stepping, advanced, placeOf, within, seeking}
+
+pub findBlock-zero : (option : IndexRecordOption) (skips bs : List ℕ) (target b at least entries : ℕ)
+    → findBlock option skips bs target zero b at least entries
+    ≡ ok (record { block = b; at = at; least = least; info = tailInfo; entries = entries })
+unfolding findBlock
+findBlock-zero option skips bs target b at least entries = refl
+
+pub findBlock-suc : (option : IndexRecordOption) (skips bs : List ℕ) (target n b at least entries : ℕ)
+    → findBlock option skips bs target (suc n) b at least entries
+    ≡ (let e : BlockInfo = readEntry option (drop (entrySize option * b) skips) in
+    ask (entryFits least (length bs - at) e) entryBroken λ _.
+    choose (leb target (e .«last_doc»))
+    (λ _. ok (record { block = b; at = at; least = least; info = e; entries = entries + 1 }))
+    (λ _. findBlock option skips bs target n (b + 1) (at + blockSize e) (e .«last_doc» + 1) (entries + 1)))
+unfolding findBlock
+findBlock-suc option skips bs target n b at least entries = refl
+
+pub loadBlock-is : (t : Term) (l : Layout) (bs : List ℕ) (f : Found)
+    → loadBlock t l bs f
+    ≡ choose (ltb (f .block) (fullBlocks t))
+    (λ _. fullBlock (and (hasFreq (l .option)) (ltb 0 (t .requested))) (f .least) (f .info) (drop (f .at) bs))
+    (λ _. tailBlock (l .option) (ltb 0 (t .requested)) (eqb (fullBlocks t) 0) (tailLength t) (f .least) (drop (f .at) bs))
+unfolding loadBlock
+loadBlock-is t l bs f = refl
+
+pub landing-is : (t : Term) (bs : List ℕ) (l : Layout) (target b at least entries unpacked : ℕ)
+    → landing t bs l target b at least entries unpacked
+    ≡ (andThen (findBlock (l .option) (skipBytes l bs) bs target (fullBlocks t - b) b at least entries) λ f.
+    andThen (loadBlock t l bs f) λ block.
+    ok (holding f unpacked block))
+unfolding landing
+landing-is t bs l target b at least entries unpacked = refl
+
+pub answerAt-is : (t : Term) (c : SegmentPostings)
+    → answerAt t c
+    ≡ choose (eqb (position c) (t .count))
+    (λ _. At TERMINATED 0 (c .unpacked) (c .entries))
+    (λ _. At (getD (c .docs) (c .place) 0) (getD (c .freqs) (c .place) 0) (c .unpacked) (c .entries))
+unfolding answerAt
+answerAt-is t c = refl
+
+pub moved-ok : (t : Term) (before c : SegmentPostings) → moved t before (ok c) ≡ record { answer = answerAt t c; cursor = c }
+unfolding moved
+moved-ok t before c = refl
+
+pub opening-is : (bs : List ℕ) (t : Term)
+    → opening bs t ≡ andThen (layout t bs) λ l. landing t bs l 0 0 (l .postings) 0 0 0
+unfolding opening
+opening-is bs t = refl
+
+pub leaving-is : (c : SegmentPostings) (bs : List ℕ) (t : Term) (target : ℕ)
+    → leaving c bs t target
+    ≡ andThen (layout t bs) λ l. landing t bs l target (c .block + 1) (c .next) (leastAfter (c .«last_doc»)) (c .entries) (c .unpacked)
+unfolding leaving
+leaving-is c bs t target = refl
+
+pub stepping-is : (c : SegmentPostings) (bs : List ℕ) (t : Term)
+    → stepping c bs t
+    ≡ (ask (inBounds t bs c) stateBroken λ _.
+    choose (eqb (position c) (t .count)) (λ _. ok c) λ _.
+    choose (ltb (c .place + 1) 128) (λ _. ok (atPlace c (c .place + 1))) λ _.
+    leaving c bs t 0)
+unfolding stepping
+stepping-is c bs t = refl
+
+pub opened-is : (bs : List ℕ) (t : Term) → opened bs t ≡ moved t blank (opening bs t)
+unfolding opened
+opened-is bs t = refl
+
+pub advanced-is : (c : SegmentPostings) (bs : List ℕ) (t : Term) → advanced c bs t ≡ moved t c (stepping c bs t)
+unfolding advanced
+advanced-is c bs t = refl
+
+pub seeking-is : (c : SegmentPostings) (bs : List ℕ) (t : Term) (target : ℕ)
+    → seeking c bs t target
+    ≡ (ask (inBounds t bs c) stateBroken λ _.
+    choose (eqb (position c) (t .count)) (λ _. ok c) λ _.
+    ask (leb target TERMINATED) targetTooLarge λ _.
+    choose (leb target (getD (c .docs) (c .place) 0)) (λ _. ok c) λ _.
+    choose (leb target (c .«last_doc»)) (λ _. within c t target) λ _.
+    andThen (leaving c bs t target) λ landed. ok (atPlace landed (placeOf landed target)))
+unfolding seeking
+seeking-is c bs t target = refl

@@ -1,0 +1,36 @@
+-- `segment_postings::core::open_in` meets its contract: opening is a landing from block 0 on, once questions 1 to 4 are answered.
+-- Assumes nothing.
+use mathlib.Core.Path.{sym, _∙_}
+use native.Mathlib.Omega.{arith}
+use Rattle.segment_postings.proofs.Lent.{laid-at, laid-refused, reaches-as, none-reached, opening-laid, opening-refused, opens-from}
+use borrow.Author.Needs.{needs}
+use Rattle.segment_postings.proofs.core.open_in.Statement.{statement}
+use Rattle.segment_postings.proofs.core.open_in.Tie as tie
+
+lay-out-requires : tie.Need-lay-out-requires
+lay-out-requires c κs = search needs
+
+enum-known-layout : tie.Need-enum-known-layout
+enum-known-layout c = search needs
+
+land-requires : tie.Need-land-requires
+land-requires c κs =
+    let l = c .before .before .before in
+    (opens-from _ _ (laid-at _ (sym (l .before .before .lay-out .ensures) ∙ l .layout .given .1)), omega arith)
+
+enum-known-n : tie.Need-enum-known-n
+enum-known-n c = search needs
+
+returns : tie.Need-returns
+returns c =
+    let l = c .before .before .before .before in
+    reaches-as (opening-laid _ _ (laid-at _ (sym (l .before .before .lay-out .ensures) ∙ l .layout .given .1))) (c .land .ensures)
+
+returns-2 : tie.Need-returns-2
+returns-2 c =
+    none-reached _ _ (opening-refused _ _ (laid-refused _ (sym (c .before .before .before .lay-out .ensures) ∙ c .before .n .given .1)))
+
+pub open-in-spec : {M : Type 1} → statement M
+open-in-spec =
+    tie.close
+    (tie.spec lay-out-requires enum-known-layout land-requires enum-known-n returns returns-2)

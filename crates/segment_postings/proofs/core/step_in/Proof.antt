@@ -1,0 +1,70 @@
+-- `segment_postings::core::step_in` meets its contract: its tests are the definition's, in turn.
+-- Assumes nothing.
+use mathlib.Core.Path.{_≡_, refl, sym, _∙_}
+use mathlib.Core.Bool.{true, false}
+use Prim.Native.Nat.{_+_, _*_}
+use native.Mathlib.Omega.{arith}
+use borrow.Author.Tests.{not-true, not-false}
+use lib.Dec.{eqb}
+use Rattle.segment_postings.specs.Cursor.{inBounds, atPlace}
+use Rattle.segment_postings.specs.Calls.{cursorOf}
+use Rattle.segment_postings.proofs.Bounds.{bounded}
+use Rattle.segment_postings.proofs.Lent.{reaches-as, none-reached, held-reached, stepping-broken, stepping-ended, stepping-within, stepping-leaves}
+use borrow.Author.Needs.{needs}
+use Rattle.segment_postings.proofs.core.step_in.Statement.{statement}
+use Rattle.segment_postings.proofs.core.step_in.Tie as tie
+
+in-bounds-requires : tie.Need-in-bounds-requires
+in-bounds-requires c κs = search needs
+
+returns : tie.Need-returns
+returns c =
+    none-reached _ _ (stepping-broken _ _ _ (sym (c .before .in-bounds .ensures _ _ _ refl) ∙ not-true _ (c .if1 .taken)))
+
+in-bounds : (c : tie.Else1) → let s = c .before .before .before in
+    inBounds (s .args .term) (s .args .image .now) (cursorOf (s .args .held) (s .args .docs .now) (s .args .freqs .now)) ≡ true
+in-bounds c = sym (c .before .in-bounds .ensures _ _ _ refl) ∙ not-false _ (c .if1 .left)
+
+at-end-requires : tie.Need-at-end-requires
+unfolding cursorOf
+at-end-requires c κs = bounded _ _ _ (in-bounds c) .place-below
+
+returns-2 : tie.Need-returns-2
+unfolding cursorOf
+returns-2 c =
+    held-reached _ _ _ (stepping-ended _ _ _ (in-bounds (c .before .before)) (sym (c .before .at-end .ensures) ∙ c .if2 .taken))
+
+add-place : tie.Need-add-place
+unfolding cursorOf
+add-place c = omega (arith, bounded _ _ _ (in-bounds (c .before .before .before)))
+
+returns-3 : tie.Need-returns-3
+unfolding cursorOf atPlace
+returns-3 c =
+    let e = c .before .before in
+    held-reached _ _ _ (stepping-within _ _ _ (in-bounds (e .before .before)) (sym (e .before .at-end .ensures) ∙ e .if2 .left) (c .if3 .taken))
+
+leave-requires : tie.Need-leave-requires
+leave-requires c κs = in-bounds (c .before .before .before .before .before .before)
+
+returns-4 : tie.Need-returns-4
+unfolding cursorOf
+returns-4 c =
+    let f = c .before .before .before in
+    let e = f .before .before in
+    reaches-as
+    (stepping-leaves _ _ _ (in-bounds (e .before .before)) (sym (e .before .at-end .ensures) ∙ e .if2 .left) (f .if3 .left))
+    (c .leave .ensures)
+
+pub step-in-spec : {M : Type 1} → statement M
+step-in-spec =
+    tie.close
+    (tie.spec
+    in-bounds-requires
+    returns
+    at-end-requires
+    returns-2
+    add-place
+    returns-3
+    leave-requires
+    returns-4)

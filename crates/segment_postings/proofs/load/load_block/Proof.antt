@@ -1,0 +1,115 @@
+-- `segment_postings::load::load_block` meets its contract. What was taken gives the block by the questions asked in turn, and the two
+-- functions that ask them answer with the first number; where both answer 0 the arrays hold what the values stand for, and behind
+-- that what an opened block starts with.
+-- Assumes nothing.
+use mathlib.Core.Path.{_≡_, refl, sym, _∙_}
+use mathlib.Core.Bool.{Bool, true, false}
+use mathlib.Core.List.{List, _++_}
+use Prim.Native.Nat.{ℕ, zero, suc, _+_, _-_, _≤_}
+use native.Mathlib.Omega.{arith}
+use lib.ListN.{length, take, drop, replicate}
+use lib.Seq.{length-take-le}
+use borrow.Author.Needs.{needs}
+use Rattle.format.specs.declared.Layout.{Layout}
+use Rattle.format.specs.declared.Term.{Term}
+use Rattle.format.specs.Basics.{ok, refused, andThen, TERMINATED}
+use Rattle.format.specs.Values.{ids}
+use Rattle.format.proofs.Values.{length-ids, length-restored}
+use Rattle.segment_postings.specs.declared.Found.{Found}
+use Rattle.segment_postings.specs.declared.Loaded.the-variants.{Unpacked, Refused}
+use Rattle.segment_postings.specs.declared.load.Taken.{Taken}
+use Rattle.segment_postings.specs.Cursor.{loadBlock, padded}
+use Rattle.segment_postings.specs.Calls.{counted, orBefore, BlockLoaded}
+use Rattle.segment_postings.specs.Taken.{takenFreqs, askedFreqs, asked, outcome, ValuesTaken, DocsAsked, FreqsAsked}
+use Rattle.segment_postings.proofs.load.load_block.Statement.{statement}
+use Rattle.segment_postings.proofs.load.load_block.Tie as tie
+
+outcome-refused : {A : Type 0} (r : ℕ) (a : A) → (r ≡ 0 → ⊥) → outcome r a ≡ refused r
+unfolding outcome
+outcome-refused zero a h = absurd (h refl)
+outcome-refused (suc n) a h = refl
+
+outcome-ok : {A : Type 0} (r : ℕ) (a : A) → r ≡ 0 → outcome r a ≡ ok a
+unfolding outcome
+outcome-ok r a h = rw h
+
+length-taken : (read strict : Bool) (vs : List ℕ) → length (takenFreqs read strict vs) ≡ length vs
+unfolding takenFreqs
+length-taken true strict vs = length-restored strict vs
+length-taken false strict vs = refl
+
+-- what stands for n values, before what an array that was filled with one value has behind them, fills the 128 places
+pads : (filler n : ℕ) (xs values : List ℕ) → n ≤ 128 → length values ≡ 128 → length xs ≡ length (take n values)
+    → drop n values ≡ replicate (128 - n) filler → xs ++ drop n values ≡ padded filler xs
+unfolding padded
+pads filler n xs values few many same behind = rw (behind, same, length-take-le n values (omega arith))
+
+module _ (t : Term) (l : Layout) (bs : List ℕ) (f : Found) (unpacked : ℕ) (docs freqs : List ℕ) where
+  -- a refusal
+  none-loaded : (r : ℕ) → loadBlock t l bs f ≡ refused r → BlockLoaded t l bs f unpacked docs freqs docs freqs (Refused r)
+  unfolding counted orBefore
+  none-loaded r e = record { answer = rw e; docs-after = rw e; freqs-after = rw e }
+
+  module _ {vs cs vs′ : List ℕ} {k : Taken} (taken : ValuesTaken t l bs f unpacked vs cs k) {r : ℕ} (d : DocsAsked k (f .least) vs vs′ r) where
+    abbrev ds : List ℕ
+    ds = ids (k .strict) (f .least) (take (k .n) vs)
+
+    abbrev fs : List ℕ
+    fs = takenFreqs (k .read) (k .strict) (take (k .n) cs)
+
+    block : loadBlock t l bs f
+        ≡ andThen (outcome r ds) λ ds. andThen (askedFreqs k cs) λ fs. ok (record { docs = ds; freqs = fs; last = k .«last_doc» })
+    unfolding asked
+    block = sym (taken .questions) ∙ rw (d .answer)
+
+    docs-refused : (r ≡ 0 → ⊥) → BlockLoaded t l bs f unpacked docs freqs docs freqs (Refused r)
+    unfolding andThen
+    docs-refused h = none-loaded r (block ∙ rw (outcome-refused r ds h))
+
+    module _ (passed : r ≡ 0) {cs′ : List ℕ} {r′ : ℕ} (e : FreqsAsked k cs cs′ r′) where
+      block′ : loadBlock t l bs f ≡ andThen (outcome r′ fs) λ fs. ok (record { docs = ds; freqs = fs; last = k .«last_doc» })
+      unfolding andThen
+      block′ = block ∙ rw (outcome-ok r ds passed, e .answer)
+
+      freqs-refused : (r′ ≡ 0 → ⊥) → BlockLoaded t l bs f unpacked docs freqs docs freqs (Refused r′)
+      unfolding andThen
+      freqs-refused h = none-loaded r′ (block′ ∙ rw (outcome-refused r′ fs h))
+
+      loaded : r′ ≡ 0 → BlockLoaded t l bs f unpacked docs freqs vs′ cs′ (Unpacked (k .unpacked))
+      unfolding andThen counted orBefore padded
+      loaded passed′ =
+          let is : loadBlock t l bs f ≡ ok (record { docs = ds; freqs = fs; last = k .«last_doc» }) = block′ ∙ rw (outcome-ok r′ fs passed′) in
+          record {
+            answer = rw (is, taken .counted);
+            docs-after = rw is (d .left passed ∙ pads TERMINATED (k .n) ds vs (taken .n-most) (taken .docs-length) (length-ids _ _ _) (taken .docs-behind));
+            freqs-after = rw is (e .left passed′ ∙ pads 1 (k .n) fs cs (taken .n-most) (taken .freqs-length) (length-taken _ _ _) (taken .freqs-behind));
+          }
+
+take-values-requires : tie.Need-take-values-requires
+take-values-requires c κs = search needs
+
+ask-docs-requires : tie.Need-ask-docs-requires
+ask-docs-requires c κs = search needs
+
+returns : tie.Need-returns
+returns c =
+    docs-refused _ _ _ _ _ _ _ (c .before .before .before .take-values .ensures) (c .before .ask-docs .ensures) (c .if1 .taken)
+
+ask-freqs-requires : tie.Need-ask-freqs-requires
+ask-freqs-requires c κs = search needs
+
+returns-2 : tie.Need-returns-2
+returns-2 c =
+    let docs = c .before .before .before .before in
+    freqs-refused _ _ _ _ _ _ _ (docs .before .before .take-values .ensures) (docs .ask-docs .ensures) (omega arith) (c .before .ask-freqs .ensures)
+    (c .if2 .taken)
+
+returns-3 : tie.Need-returns-3
+returns-3 c =
+    let docs = c .before .before .before .before in
+    loaded _ _ _ _ _ _ _ (docs .before .before .take-values .ensures) (docs .ask-docs .ensures) (omega arith) (c .before .ask-freqs .ensures)
+    (omega arith)
+
+pub load-block-spec : {M : Type 1} → statement M
+load-block-spec =
+    tie.close (tie.spec take-values-requires ask-docs-requires returns ask-freqs-requires returns-2 returns-3)

@@ -1,0 +1,66 @@
+-- `segment_postings::seeks::seek` meets its contract: where the core came to, put together, is where the definition comes to.
+-- Assumes nothing.
+use mathlib.Core.Path.{_≡_, sym, ap, _∙_}
+use borrow.Author.Needs.{needs}
+use Rattle.segment_postings.specs.declared.SegmentPostings.{SegmentPostings}
+use Rattle.segment_postings.specs.Cursor.{seeking, sought}
+use Rattle.segment_postings.specs.Calls.{cursorOf}
+use Rattle.segment_postings.proofs.Lent.{reaches-as, reached-at, same-cursor, moved-at, moved-nowhere}
+use Rattle.segment_postings.proofs.Sought.{seeking-near}
+use Rattle.segment_postings.proofs.seeks.seek.Statement.{statement}
+use Rattle.segment_postings.proofs.seeks.seek.Tie as tie
+
+held-of-requires : tie.Need-held-of-requires
+held-of-requires c κs = search needs
+
+seek-in-requires : tie.Need-seek-in-requires
+seek-in-requires c κs = search needs
+
+enum-known-held : tie.Need-enum-known-held
+enum-known-held c = search needs
+
+-- the cursor that was taken apart
+same : (c : tie.After-seek-in) →
+    let h = c .before .before .before in
+    let s = h .before .before .before .before in
+    seeking (s .args .cursor) (s .args .image .now) (s .args .term) (s .args .target)
+    ≡ seeking (cursorOf (h .held-of .result) (s .args .cursor .docs) (s .args .cursor .freqs)) (s .args .image .now) (s .args .term) (s .args .target)
+same c =
+    let h = c .before .before .before in
+    let s = h .before .before .before .before in
+    ap (λ (x : SegmentPostings). seeking x (s .args .image .now) (s .args .term) (s .args .target))
+    (sym (same-cursor (s .args .cursor) (h .held-of .ensures)))
+
+moved-to-requires : tie.Need-moved-to-requires
+unfolding cursorOf
+moved-to-requires c κs =
+    let h = c .before in
+    seeking-near _ _ _ _ (reached-at (h .before .before .seek-in .ensures) (h .held .given .1)) .0
+
+enum-known-n : tie.Need-enum-known-n
+enum-known-n c = search needs
+
+returns : tie.Need-returns
+unfolding sought
+returns c =
+    let h = c .before .before in
+    let s = h .before .before in
+    c .moved-to .ensures ∙ sym (moved-at _ _ (reached-at (reaches-as (same s) (s .seek-in .ensures)) (h .held .given .1)))
+
+returns-2 : tie.Need-returns-2
+unfolding sought
+returns-2 c =
+    let s = c .before .before .before in
+    sym (moved-nowhere _ _ (reaches-as (same s) (s .seek-in .ensures)) (c .before .n .given .1))
+
+pub seek-spec : {M : Type 1} → statement M
+seek-spec =
+    tie.close
+    (tie.spec
+    held-of-requires
+    seek-in-requires
+    enum-known-held
+    moved-to-requires
+    enum-known-n
+    returns
+    returns-2)

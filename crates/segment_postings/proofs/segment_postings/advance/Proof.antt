@@ -1,0 +1,65 @@
+-- `segment_postings::segment_postings::advance` meets its contract: where the core came to, put together, is where the definition
+-- comes to.
+-- Assumes nothing.
+use mathlib.Core.Path.{_≡_, sym, ap, _∙_}
+use Rattle.segment_postings.specs.declared.SegmentPostings.{SegmentPostings}
+use Rattle.segment_postings.specs.Cursor.{stepping, advanced}
+use Rattle.segment_postings.specs.Calls.{cursorOf}
+use Rattle.segment_postings.proofs.Lent.{reaches-as, reached-at, same-cursor, moved-at, moved-nowhere, stepping-place}
+use borrow.Author.Needs.{needs}
+use Rattle.segment_postings.proofs.segment_postings.advance.Statement.{statement}
+use Rattle.segment_postings.proofs.segment_postings.advance.Tie as tie
+
+held-of-requires : tie.Need-held-of-requires
+held-of-requires c κs = search needs
+
+step-in-requires : tie.Need-step-in-requires
+step-in-requires c κs = search needs
+
+enum-known-held : tie.Need-enum-known-held
+enum-known-held c = search needs
+
+-- the cursor that was taken apart
+same : (c : tie.After-step-in) →
+    let h = c .before .before .before in
+    let s = h .before .before .before .before in
+    stepping (s .args .cursor) (s .args .image .now) (s .args .term)
+    ≡ stepping (cursorOf (h .held-of .result) (s .args .cursor .docs) (s .args .cursor .freqs)) (s .args .image .now) (s .args .term)
+same c =
+    let h = c .before .before .before in
+    let s = h .before .before .before .before in
+    ap (λ (x : SegmentPostings). stepping x (s .args .image .now) (s .args .term)) (sym (same-cursor (s .args .cursor) (h .held-of .ensures)))
+
+moved-to-requires : tie.Need-moved-to-requires
+unfolding cursorOf
+moved-to-requires c κs =
+    let h = c .before in
+    stepping-place _ _ _ (reached-at (h .before .before .step-in .ensures) (h .held .given .1))
+
+enum-known-n : tie.Need-enum-known-n
+enum-known-n c = search needs
+
+returns : tie.Need-returns
+unfolding advanced
+returns c =
+    let h = c .before .before in
+    let s = h .before .before in
+    c .moved-to .ensures ∙ sym (moved-at _ _ (reached-at (reaches-as (same s) (s .step-in .ensures)) (h .held .given .1)))
+
+returns-2 : tie.Need-returns-2
+unfolding advanced
+returns-2 c =
+    let s = c .before .before .before in
+    sym (moved-nowhere _ _ (reaches-as (same s) (s .step-in .ensures)) (c .before .n .given .1))
+
+pub advance-spec : {M : Type 1} → statement M
+advance-spec =
+    tie.close
+    (tie.spec
+    held-of-requires
+    step-in-requires
+    enum-known-held
+    moved-to-requires
+    enum-known-n
+    returns
+    returns-2)

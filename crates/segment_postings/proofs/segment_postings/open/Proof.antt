@@ -1,0 +1,52 @@
+-- `segment_postings::segment_postings::open` meets its contract: where the core came to, put together, is where the definition comes to.
+-- Assumes nothing.
+use mathlib.Core.Path.{sym, ap, _∙_}
+use native.Mathlib.Omega.{arith}
+use Rattle.segment_postings.specs.Cursor.{opened, blank}
+use Rattle.segment_postings.specs.Calls.{cursorOf}
+use Rattle.segment_postings.proofs.Lent.{reached-at, moved-at, moved-nowhere, opening-first}
+use borrow.Author.Needs.{needs}
+use Rattle.segment_postings.proofs.segment_postings.open.Statement.{statement}
+use Rattle.segment_postings.proofs.segment_postings.open.Tie as tie
+
+blank-requires : tie.Need-blank-requires
+blank-requires c κs = search needs
+
+open-in-requires : tie.Need-open-in-requires
+open-in-requires c κs = search needs
+
+enum-known-held : tie.Need-enum-known-held
+enum-known-held c = search needs
+
+moved-to-requires : tie.Need-moved-to-requires
+unfolding cursorOf
+moved-to-requires c κs =
+    let h = c .before in
+    omega (arith, opening-first _ _ (reached-at (h .before .before .open-in .ensures) (h .held .given .1)))
+
+enum-known-n : tie.Need-enum-known-n
+enum-known-n c = search needs
+
+returns : tie.Need-returns
+unfolding opened
+returns c =
+    let h = c .before .before in
+    c .moved-to .ensures ∙ sym (moved-at _ _ (reached-at (h .before .before .open-in .ensures) (h .held .given .1)))
+
+returns-2 : tie.Need-returns-2
+unfolding opened
+returns-2 c =
+    let o = c .before .before .before in
+    rw (o .before .before .before .before .before .blank .ensures) (sym (moved-nowhere _ _ (o .open-in .ensures) (c .before .n .given .1)))
+
+pub open-spec : {M : Type 1} → statement M
+open-spec =
+    tie.close
+    (tie.spec
+    blank-requires
+    open-in-requires
+    enum-known-held
+    moved-to-requires
+    enum-known-n
+    returns
+    returns-2)

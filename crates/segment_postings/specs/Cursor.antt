@@ -1,0 +1,228 @@
+-- What the cursor's calls answer and leave, on every input.
+-- Assumes nothing.
+use mathlib.Core.Bool.{Bool, true, false, _&&_ as and}
+use mathlib.Core.List.{List, [], _∷_, _++_}
+use Prim.Native.Nat.{ℕ, zero, suc, _+_, _-_, _*_, _/_, min}
+use lib.ListN.{length, drop, getD, replicate}
+use lib.Dec.{eqb, leb, ltb}
+use Rattle.format.specs.declared.BlockInfo.{BlockInfo}
+use Rattle.format.specs.declared.IndexRecordOption.{IndexRecordOption}
+use Rattle.format.specs.declared.Layout.{Layout}
+use Rattle.format.specs.declared.Term.{Term}
+use Rattle.format.specs.Basics.{Outcome, ok, refused, andThen, ask, choose, TERMINATED}
+use Rattle.format.specs.Refusal.{entryBroken, targetTooLarge, stateBroken}
+use Rattle.format.specs.SkipEntry.{hasFreq, entrySize, readEntry, blockSize, entryFits}
+use Rattle.format.specs.Layout.{layout, fullBlocks, tailLength, skipBytes, postingBytes}
+use Rattle.format.specs.Reading.{Block, fullBlock, tailBlock}
+use Rattle.block_search.specs.Search.{searchBlock}
+use Rattle.segment_postings.specs.declared.SegmentPostings.{SegmentPostings}
+use Rattle.segment_postings.specs.declared.Answer.{Answer}
+use Rattle.segment_postings.specs.declared.Answer.the-variants.{At, Refused}
+use Rattle.segment_postings.specs.declared.Moved.{Moved}
+use Rattle.segment_postings.specs.declared.Found.{Found}
+
+-- ---- the block that a walk or a seek lands on
+
+-- the tail has no entry: no bits, and TERMINATED for its last id
+unfoldable pub tailInfo : BlockInfo
+tailInfo = record { «last_doc» = TERMINATED; «doc_width» = 0; strict = false; «freq_width» = 0 }
+
+-- from block b on, of which n full ones are left, the first whose last id is at least the target, or the tail. Entries are read one
+-- by one, and each is asked question 5, that of a block passed over too
+unfoldable pub findBlock : IndexRecordOption → List ℕ → List ℕ → ℕ → ℕ → ℕ → ℕ → ℕ → ℕ → Outcome Found
+unfolding ask choose tailInfo readEntry entrySize entryFits blockSize
+findBlock option skips bs target zero b at least entries =
+    ok (record { block = b; at = at; least = least; info = tailInfo; entries = entries })
+findBlock option skips bs target (suc n) b at least entries =
+    let e : BlockInfo = readEntry option (drop (entrySize option * b) skips) in
+    ask (entryFits least (length bs - at) e) entryBroken λ _.
+    choose (leb target (e .«last_doc»))
+    (λ _. ok (record { block = b; at = at; least = least; info = e; entries = entries + 1 }))
+    (λ _. findBlock option skips bs target n (b + 1) (at + blockSize e) (e .«last_doc» + 1) (entries + 1))
+
+-- questions 6 to 9, of the block found
+unfoldable pub loadBlock : Term → Layout → List ℕ → Found → Outcome Block
+unfolding choose fullBlocks tailLength hasFreq fullBlock tailBlock
+loadBlock t l bs f =
+    choose (ltb (f .block) (fullBlocks t))
+    (λ _. fullBlock (and (hasFreq (l .option)) (ltb 0 (t .requested))) (f .least) (f .info) (drop (f .at) bs))
+    (λ _. tailBlock (l .option) (ltb 0 (t .requested)) (eqb (fullBlocks t) 0) (tailLength t) (f .least) (drop (f .at) bs))
+
+-- 128 places, those behind the values filled up
+unfoldable pub padded : ℕ → List ℕ → List ℕ
+padded filler values = values ++ replicate (128 - length values) filler
+
+-- the cursor at the first place of the block
+unfoldable pub holding : Found → ℕ → Block → SegmentPostings
+unfolding padded blockSize
+holding f unpacked b = record {
+  docs = padded TERMINATED (b .docs);
+  freqs = padded 1 (b .freqs);
+  place = 0;
+  block = f .block;
+  next = f .at + blockSize (f .info);
+  «last_doc» = f .info .«last_doc»;
+  unpacked = unpacked + 1;
+  entries = f .entries;
+}
+
+-- the first block from block b on whose last id is at least the target, unpacked
+unfoldable pub landing : Term → List ℕ → Layout → ℕ → ℕ → ℕ → ℕ → ℕ → ℕ → Outcome SegmentPostings
+unfolding andThen findBlock loadBlock holding fullBlocks skipBytes
+landing t bs l target b at least entries unpacked =
+    andThen (findBlock (l .option) (skipBytes l bs) bs target (fullBlocks t - b) b at least entries) λ f.
+    andThen (loadBlock t l bs f) λ block.
+    ok (holding f unpacked block)
+
+-- ---- the calls
+
+unfoldable pub position : SegmentPostings → ℕ
+position c = 128 * c .block + c .place
+
+-- question 16: block at most F, place below 128, position at most count, bytes inside the image, unpacked at most block + 1,
+-- entries at most the smaller of block + 1 and F
+unfoldable pub inBounds : Term → List ℕ → SegmentPostings → Bool
+unfolding fullBlocks position
+inBounds t bs c =
+    and (leb (c .block) (fullBlocks t))
+    (and (ltb (c .place) 128)
+    (and (leb (position c) (t .count))
+    (and (leb (c .next) (length bs))
+    (and (leb (c .unpacked) (c .block + 1))
+    (leb (c .entries) (min (c .block + 1) (fullBlocks t)))))))
+
+-- the document and the frequency at the position, at the end TERMINATED and 0
+unfoldable pub answerAt : Term → SegmentPostings → Answer
+unfolding choose position
+answerAt t c =
+    choose (eqb (position c) (t .count))
+    (λ _. At TERMINATED 0 (c .unpacked) (c .entries))
+    (λ _. At (getD (c .docs) (c .place) 0) (getD (c .freqs) (c .place) 0) (c .unpacked) (c .entries))
+
+-- an outcome with its answer; a refused call leaves the cursor as it was
+unfoldable pub moved : Term → SegmentPostings → Outcome SegmentPostings → Moved
+unfolding answerAt
+moved t before (ok c) = record { answer = answerAt t c; cursor = c }
+moved t before (refused n) = record { answer = Refused n; cursor = before }
+
+-- an opened block starts as 128 places holding TERMINATED, with frequency 1; a refused opening leaves it so
+unfoldable pub blank : SegmentPostings
+blank = record {
+  docs = replicate 128 TERMINATED;
+  freqs = replicate 128 1;
+  place = 0;
+  block = 0;
+  next = 0;
+  «last_doc» = 0;
+  unpacked = 0;
+  entries = 0;
+}
+
+-- opening reads entry 0, if any, and unpacks block 0
+unfoldable pub opening : List ℕ → Term → Outcome SegmentPostings
+unfolding andThen layout landing
+opening bs t = andThen (layout t bs) λ l. landing t bs l 0 0 (l .postings) 0 0 0
+
+unfoldable pub opened : List ℕ → Term → Moved
+unfolding moved blank opening
+opened bs t = moved t blank (opening bs t)
+
+-- the place p of the held block
+unfoldable pub atPlace : SegmentPostings → ℕ → SegmentPostings
+atPlace c p = record {
+  docs = c .docs;
+  freqs = c .freqs;
+  place = p;
+  block = c .block;
+  next = c .next;
+  «last_doc» = c .«last_doc»;
+  unpacked = c .unpacked;
+  entries = c .entries;
+}
+
+-- the least id that may follow a last id; none may follow TERMINATED
+unfoldable pub leastAfter : ℕ → ℕ
+leastAfter last = min (last + 1) TERMINATED
+
+-- another block: questions 1 to 4 are asked again of the image that is passed, then 5 to 9
+unfoldable pub leaving : SegmentPostings → List ℕ → Term → ℕ → Outcome SegmentPostings
+unfolding andThen layout landing leastAfter
+leaving c bs t target =
+    andThen (layout t bs) λ l. landing t bs l target (c .block + 1) (c .next) (leastAfter (c .«last_doc»)) (c .entries) (c .unpacked)
+
+-- a step: 16; at the end nothing; else one place on, in the held block or the next
+unfoldable pub stepping : SegmentPostings → List ℕ → Term → Outcome SegmentPostings
+unfolding ask choose inBounds position atPlace leaving
+stepping c bs t =
+    ask (inBounds t bs c) stateBroken λ _.
+    choose (eqb (position c) (t .count)) (λ _. ok c) λ _.
+    choose (ltb (c .place + 1) 128) (λ _. ok (atPlace c (c .place + 1))) λ _.
+    leaving c bs t 0
+
+unfoldable pub advanced : SegmentPostings → List ℕ → Term → Moved
+unfolding moved stepping
+advanced c bs t = moved t c (stepping c bs t)
+
+-- what stands at the position among 128 values, as a call of its own: 16; at the end `end`
+unfoldable pub valueAt : List ℕ → ℕ → SegmentPostings → List ℕ → Term → Outcome ℕ
+unfolding ask choose inBounds position
+valueAt values end c bs t =
+    ask (inBounds t bs c) stateBroken λ _.
+    choose (eqb (position c) (t .count)) (λ _. ok end) (λ _. ok (getD values (c .place) 0))
+
+-- the document at the position, at the end TERMINATED
+unfoldable pub docAt : SegmentPostings → List ℕ → Term → Outcome ℕ
+unfolding valueAt
+docAt c bs t = valueAt (c .docs) TERMINATED c bs t
+
+-- the frequency at the position, at the end 0
+unfoldable pub freqAt : SegmentPostings → List ℕ → Term → Outcome ℕ
+unfolding valueAt
+freqAt c bs t = valueAt (c .freqs) 0 c bs t
+
+-- ---- seeks
+
+-- the place of the target in the held block: the first whose document is at least the target
+unfoldable pub placeOf : SegmentPostings → ℕ → ℕ
+unfolding searchBlock
+placeOf c target = searchBlock (c .docs) target
+
+-- in the held block. Held values that fit no image (16 tests numbers, not values) may have no such place behind the present one, or
+-- one behind the count: 16
+unfoldable pub within : SegmentPostings → Term → ℕ → Outcome SegmentPostings
+unfolding ask placeOf atPlace
+within c t target =
+    let p : ℕ = placeOf c target in
+    ask
+    (and (ltb (c .place) p)
+    (and (ltb p 128)
+    (and (leb target (getD (c .docs) p 0))
+    (leb (128 * c .block + p) (t .count)))))
+    stateBroken
+    λ _. ok (atPlace c p)
+
+-- a seek: 16; at the end nothing, whatever the target; 10; a target not behind the present document stays; then the held block, if its
+-- last id is at least the target, else the block that the entries lead to
+unfoldable pub seeking : SegmentPostings → List ℕ → Term → ℕ → Outcome SegmentPostings
+unfolding ask choose andThen inBounds position within leaving atPlace placeOf
+seeking c bs t target =
+    ask (inBounds t bs c) stateBroken λ _.
+    choose (eqb (position c) (t .count)) (λ _. ok c) λ _.
+    ask (leb target TERMINATED) targetTooLarge λ _.
+    choose (leb target (getD (c .docs) (c .place) 0)) (λ _. ok c) λ _.
+    choose (leb target (c .«last_doc»)) (λ _. within c t target) λ _.
+    andThen (leaving c bs t target) λ landed. ok (atPlace landed (placeOf landed target))
+
+unfoldable pub sought : SegmentPostings → List ℕ → Term → ℕ → Moved
+unfolding moved seeking
+sought c bs t target = moved t c (seeking c bs t target)
+
+-- rank: 10 first; then the position of a fresh cursor, requested 0, after the seek
+unfoldable pub ranking : ℕ → ℕ → List ℕ → ℕ → Outcome ℕ
+unfolding ask andThen opening seeking position
+ranking mode count bs target =
+    let t : Term = record { mode = mode; requested = 0; count = count } in
+    ask (leb target TERMINATED) targetTooLarge λ _.
+    andThen (opening bs t) λ c.
+    andThen (seeking c bs t target) λ d.
+    ok (position d)

@@ -1,0 +1,236 @@
+// The cursor on two lent arrays: opening, leaving a block and a step, with the cursor's numbers by value. Calls on a whole cursor
+// take it apart, lend its arrays and put it together again; loops over many calls use these functions and copy no array.
+
+use crate::Answer;
+use crate::Found;
+use crate::Held;
+use crate::Laid;
+use crate::Loaded;
+use crate::Reached;
+use crate::Search;
+use crate::find::find_block;
+use crate::layout::lay_out;
+use crate::load::load_block;
+use format::COMPRESSION_BLOCK_SIZE;
+use format::Layout;
+use format::STATE_BROKEN;
+use format::TERMINATED;
+use format::Term;
+use skip::block_size;
+ghost use mathlib.Core.Bool.{true};
+ghost use mathlib.Core.Path.{_≡_};
+ghost use mathlib.Core.List.{List};
+ghost use Prim.Native.Nat.{ℕ, _+_, _*_, _<_, _^_};
+ghost use lib.Dec.{eqb};
+ghost use lib.ListN.{length};
+ghost use Rattle.segment_postings.specs.Cursor.{inBounds, answerAt, landing, opening, leastAfter, leaving, stepping};
+ghost use Rattle.segment_postings.specs.Calls.{cursorOf, FoundThere, FindsFrom, Reaches, loaded};
+
+// Question 16 of a cursor over an image of `size` bytes: it is asked of the numbers alone.
+pub(crate) fn in_bounds(held: Held, term: Term, size: usize) -> bool
+    ensures { λ r. ⌜ ((bs docs freqs : List ℕ) → length bs ≡ size → r ≡ inBounds term bs (cursorOf held docs freqs)) ⌝ }
+{
+    let count = term.count as usize;
+    let blocks = count / COMPRESSION_BLOCK_SIZE;
+    if blocks < held.block {
+        return false;
+    }
+    if COMPRESSION_BLOCK_SIZE <= held.place {
+        return false;
+    }
+    if count < COMPRESSION_BLOCK_SIZE * held.block + held.place {
+        return false;
+    }
+    if size < held.next {
+        return false;
+    }
+    let reached = held.block + 1;
+    if reached < held.unpacked {
+        return false;
+    }
+    if reached < held.entries {
+        return false;
+    }
+    if blocks < held.entries {
+        return false;
+    }
+    true
+}
+
+// Whether the position is the end, for a place in a block.
+pub(crate) fn at_end(held: Held, term: Term) -> bool
+    requires { ⌜ held .place < 128 ⌝ }
+    ensures { λ r. ⌜ r ≡ eqb (128 * held .block + held .place) (term .count) ⌝ }
+{
+    let count = term.count as usize;
+    if held.block != count / COMPRESSION_BLOCK_SIZE {
+        return false;
+    }
+    held.place == count % COMPRESSION_BLOCK_SIZE
+}
+
+// The document and the frequency at the position, at the end TERMINATED and 0.
+pub(crate) fn answer_at(held: Held, term: Term, docs: &[u32; 128], freqs: &[u32; 128]) -> Answer
+    requires { ⌜ held .place < 128 ⌝ }
+    ensures { λ r. ⌜ r ≡ answerAt term (cursorOf held (now (docs .entry)) (now (freqs .entry))) ⌝ }
+{
+    if at_end(held, term) {
+        return Answer::At {
+            doc: TERMINATED,
+            freq: 0,
+            unpacked: held.unpacked,
+            entries: held.entries,
+        };
+    }
+    let place = held.place;
+    Answer::At {
+        doc: docs[place],
+        freq: freqs[place],
+        unpacked: held.unpacked,
+        entries: held.entries,
+    }
+}
+
+// Unpacks a block that was found, and goes to its first place: questions 6 to 9.
+fn unpack_found(
+    image: &[u8],
+    term: Term,
+    layout: Layout,
+    found: Found,
+    unpacked: usize,
+    docs: &mut [u32; 128],
+    freqs: &mut [u32; 128],
+) -> Reached
+    requires { ⌜ FoundThere term (now image) found × (unpacked + 1 < 2 ^ 64) ⌝ }
+    ensures { λ r. ⌜ Reaches (loaded term layout (now (image .entry)) found unpacked) (now (docs .entry)) (now (freqs .entry)) (now (docs .exit)) (now (freqs .exit)) r ⌝ }
+{
+    match load_block(image, term, layout, found, unpacked, docs, freqs) {
+        Loaded::Unpacked(unpacked) => {
+            let info = found.info;
+            Reached::At(Held {
+                place: 0,
+                block: found.block,
+                next: found.at + block_size(info),
+                last_doc: info.last_doc,
+                unpacked,
+                entries: found.entries,
+            })
+        }
+        Loaded::Refused(n) => Reached::Refused(n),
+    }
+}
+
+// Goes to the first block from `block` on whose last id is at least the target, and unpacks it: questions 5 to 9.
+pub(crate) fn land(
+    image: &[u8],
+    term: Term,
+    layout: Layout,
+    target: u32,
+    block: usize,
+    at: usize,
+    least: u32,
+    entries: usize,
+    unpacked: usize,
+    docs: &mut [u32; 128],
+    freqs: &mut [u32; 128],
+) -> Reached
+    requires { ⌜ FindsFrom term layout (now image) block at entries × (unpacked + 1 < 2 ^ 64) ⌝ }
+    ensures { λ r. ⌜ Reaches (landing term (now (image .entry)) layout target block at least entries unpacked) (now (docs .entry)) (now (freqs .entry)) (now (docs .exit)) (now (freqs .exit)) r ⌝ }
+{
+    match find_block(image, term, layout, target, block, at, least, entries) {
+        Search::To(found) => unpack_found(image, term, layout, found, unpacked, docs, freqs),
+        Search::Refused(n) => Reached::Refused(n),
+    }
+}
+
+// Opens a list at its first document: questions 1 to 4, then entry 0, if any, and block 0.
+pub(crate) fn open_in(
+    image: &[u8],
+    term: Term,
+    docs: &mut [u32; 128],
+    freqs: &mut [u32; 128],
+) -> Reached
+    ensures { λ r. ⌜ Reaches (opening (now (image .entry)) term) (now (docs .entry)) (now (freqs .entry)) (now (docs .exit)) (now (freqs .exit)) r ⌝ }
+{
+    match lay_out(image, term) {
+        Laid::At(layout) => {
+            let postings = layout.postings;
+            land(image, term, layout, 0, 0, postings, 0, 0, 0, docs, freqs)
+        }
+        Laid::Refused(n) => Reached::Refused(n),
+    }
+}
+
+// The least id that may follow a last id; none may follow TERMINATED.
+fn least_after(last_doc: u32) -> u32
+    ensures { λ r. ⌜ r ≡ leastAfter «last_doc» ⌝ }
+{
+    if last_doc < TERMINATED {
+        last_doc + 1
+    } else {
+        TERMINATED
+    }
+}
+
+// Goes to another block: questions 1 to 4 are asked again of the image that is passed, then 5 to 9.
+pub(crate) fn leave(
+    held: Held,
+    image: &[u8],
+    term: Term,
+    target: u32,
+    docs: &mut [u32; 128],
+    freqs: &mut [u32; 128],
+) -> Reached
+    requires { ⌜ inBounds term (now image) (cursorOf held (now docs) (now freqs)) ≡ true ⌝ }
+    ensures { λ r. ⌜ Reaches (leaving (cursorOf held (now (docs .entry)) (now (freqs .entry))) (now (image .entry)) term target) (now (docs .entry)) (now (freqs .entry)) (now (docs .exit)) (now (freqs .exit)) r ⌝ }
+{
+    match lay_out(image, term) {
+        Laid::At(layout) => {
+            let least = least_after(held.last_doc);
+            land(
+                image,
+                term,
+                layout,
+                target,
+                held.block + 1,
+                held.next,
+                least,
+                held.entries,
+                held.unpacked,
+                docs,
+                freqs,
+            )
+        }
+        Laid::Refused(again) => Reached::Refused(again),
+    }
+}
+
+// Steps to the next document: in the held block, or to the first of the next one; at the end nowhere.
+pub(crate) fn step_in(
+    held: Held,
+    image: &[u8],
+    term: Term,
+    docs: &mut [u32; 128],
+    freqs: &mut [u32; 128],
+) -> Reached
+    ensures { λ r. ⌜ Reaches (stepping (cursorOf held (now (docs .entry)) (now (freqs .entry))) (now (image .entry)) term) (now (docs .entry)) (now (freqs .entry)) (now (docs .exit)) (now (freqs .exit)) r ⌝ }
+{
+    if !in_bounds(held, term, image.len()) {
+        return Reached::Refused(STATE_BROKEN);
+    }
+    if at_end(held, term) {
+        return Reached::At(held);
+    }
+    let place = held.place + 1;
+    if place < COMPRESSION_BLOCK_SIZE {
+        return Reached::At(Held {
+            place,
+            block: held.block,
+            next: held.next,
+            last_doc: held.last_doc,
+            unpacked: held.unpacked,
+            entries: held.entries,
+        });
+    }
+    leave(held, image, term, 0, docs, freqs)
+}

@@ -1,0 +1,151 @@
+// Seeks, on two lent arrays and by value, and the rank, which a fresh cursor's seek finds.
+
+use crate::Answer;
+use crate::Held;
+use crate::Moved;
+use crate::Reached;
+use crate::SegmentPostings;
+use crate::Value;
+use crate::core::at_end;
+use crate::core::in_bounds;
+use crate::core::leave;
+use crate::core::open_in;
+use crate::segment_postings::held_of;
+use crate::segment_postings::moved_to;
+use block_search::search_block;
+use format::COMPRESSION_BLOCK_SIZE;
+use format::STATE_BROKEN;
+use format::TARGET_TOO_LARGE;
+use format::TERMINATED;
+use format::Term;
+ghost use mathlib.Core.Bool.{true};
+ghost use mathlib.Core.Path.{_≡_};
+ghost use mathlib.Core.List.{List};
+ghost use Prim.Native.Nat.{ℕ, _/_, _≤_, _<_};
+ghost use Rattle.format.specs.Basics.{ok, andThen};
+ghost use Rattle.segment_postings.specs.Cursor.{inBounds, atPlace, placeOf, leaving, within, seeking, sought, ranking};
+ghost use Rattle.segment_postings.specs.Calls.{cursorOf, Reaches, valued};
+
+// The place p of the held block.
+fn at_place(held: Held, place: usize) -> Held
+    ensures { λ r. ⌜ ((docs freqs : List ℕ) → cursorOf r docs freqs ≡ atPlace (cursorOf held docs freqs) place) ⌝ }
+{
+    Held {
+        place,
+        block: held.block,
+        next: held.next,
+        last_doc: held.last_doc,
+        unpacked: held.unpacked,
+        entries: held.entries,
+    }
+}
+
+// Seeks in the held block. Values that fit no image may have no place for the target behind the present one: 16.
+fn seek_within(held: Held, term: Term, target: u32, docs: &[u32; 128]) -> Reached
+    requires { ⌜ held .block ≤ term .count / 128 ⌝ }
+    ensures { λ r. ⌜ ((freqs : List ℕ) → Reaches (within (cursorOf held (now (docs .entry)) freqs) term target) (now (docs .entry)) freqs (now (docs .entry)) freqs r) ⌝ }
+{
+    let place = search_block(docs, target);
+    if place <= held.place {
+        return Reached::Refused(STATE_BROKEN);
+    }
+    if COMPRESSION_BLOCK_SIZE <= place {
+        return Reached::Refused(STATE_BROKEN);
+    }
+    if docs[place] < target {
+        return Reached::Refused(STATE_BROKEN);
+    }
+    if (term.count as usize) < COMPRESSION_BLOCK_SIZE * held.block + place {
+        return Reached::Refused(STATE_BROKEN);
+    }
+    Reached::At(at_place(held, place))
+}
+
+// Seeks behind the held block: the block that the entries lead to, and the target's place in it.
+fn seek_behind(
+    held: Held,
+    image: &[u8],
+    term: Term,
+    target: u32,
+    docs: &mut [u32; 128],
+    freqs: &mut [u32; 128],
+) -> Reached
+    requires { ⌜ inBounds term (now image) (cursorOf held (now docs) (now freqs)) ≡ true ⌝ }
+    ensures { λ r. ⌜ Reaches (andThen (leaving (cursorOf held (now (docs .entry)) (now (freqs .entry))) (now (image .entry)) term target) λ landed. ok (atPlace landed (placeOf landed target))) (now (docs .entry)) (now (freqs .entry)) (now (docs .exit)) (now (freqs .exit)) r ⌝ }
+{
+    match leave(held, image, term, target, docs, freqs) {
+        Reached::At(landed) => Reached::At(at_place(landed, search_block(docs, target))),
+        Reached::Refused(n) => Reached::Refused(n),
+    }
+}
+
+// Seeks to the first document, not before the present one, that is at least the target; if there is none, to the end. At the end
+// nothing changes, whatever the target.
+pub(crate) fn seek_in(
+    held: Held,
+    image: &[u8],
+    term: Term,
+    target: u32,
+    docs: &mut [u32; 128],
+    freqs: &mut [u32; 128],
+) -> Reached
+    ensures { λ r. ⌜ Reaches (seeking (cursorOf held (now (docs .entry)) (now (freqs .entry))) (now (image .entry)) term target) (now (docs .entry)) (now (freqs .entry)) (now (docs .exit)) (now (freqs .exit)) r ⌝ }
+{
+    if !in_bounds(held, term, image.len()) {
+        return Reached::Refused(STATE_BROKEN);
+    }
+    if at_end(held, term) {
+        return Reached::At(held);
+    }
+    if TERMINATED < target {
+        return Reached::Refused(TARGET_TOO_LARGE);
+    }
+    let place = held.place;
+    if target <= docs[place] {
+        return Reached::At(held);
+    }
+    if target <= held.last_doc {
+        return seek_within(held, term, target, docs);
+    }
+    seek_behind(held, image, term, target, docs, freqs)
+}
+
+// Seeks to the first document, not before the present one, that is at least the target; if there is none, to the end.
+pub fn seek(cursor: SegmentPostings, image: &[u8], term: Term, target: u32) -> Moved
+    ensures { λ r. ⌜ r ≡ sought cursor (now (image .entry)) term target ⌝ }
+{
+    let mut docs = cursor.docs;
+    let mut freqs = cursor.freqs;
+    match seek_in(held_of(cursor), image, term, target, &mut docs, &mut freqs) {
+        Reached::At(held) => moved_to(held, term, docs, freqs),
+        Reached::Refused(n) => Moved {
+            answer: Answer::Refused(n),
+            cursor,
+        },
+    }
+}
+
+// How many documents lie below the target.
+pub fn rank(image: &[u8], mode: u8, count: u32, target: u32) -> Value
+    ensures { λ r. ⌜ r ≡ valued (ranking mode count (now (image .entry)) target) ⌝ }
+{
+    if TERMINATED < target {
+        return Value::Refused(TARGET_TOO_LARGE);
+    }
+    let term = Term {
+        mode,
+        requested: 0,
+        count,
+    };
+    let mut docs = [TERMINATED; 128];
+    let mut freqs = [1; 128];
+    match open_in(image, term, &mut docs, &mut freqs) {
+        Reached::At(first) => match seek_in(first, image, term, target, &mut docs, &mut freqs) {
+            Reached::At(held) => Value::Is(
+                (COMPRESSION_BLOCK_SIZE * held.block + held.place) as u64,
+            ),
+            Reached::Refused(n) => Value::Refused(n),
+        },
+        Reached::Refused(n) => Value::Refused(n),
+    }
+}

@@ -1,0 +1,146 @@
+// The cursor over a list's documents, by value: opening, the step, and the document and the frequency at its position.
+
+use crate::Answer;
+use crate::Held;
+use crate::Moved;
+use crate::Reached;
+use crate::SegmentPostings;
+use crate::Value;
+use crate::core::answer_at;
+use crate::core::at_end;
+use crate::core::in_bounds;
+use crate::core::open_in;
+use crate::core::step_in;
+use format::STATE_BROKEN;
+use format::TERMINATED;
+use format::Term;
+ghost use mathlib.Core.Path.{_≡_};
+ghost use mathlib.Core.List.{List};
+ghost use Prim.Native.Nat.{ℕ, _<_};
+ghost use Rattle.segment_postings.specs.Cursor.{blank, answerAt, opened, advanced, valueAt, docAt, freqAt};
+ghost use Rattle.segment_postings.specs.Calls.{cursorOf, heldOf, valued};
+
+// The numbers of a cursor.
+pub(crate) fn held_of(cursor: SegmentPostings) -> Held
+    ensures { λ r. ⌜ r ≡ heldOf cursor ⌝ }
+{
+    Held {
+        place: cursor.place,
+        block: cursor.block,
+        next: cursor.next,
+        last_doc: cursor.last_doc,
+        unpacked: cursor.unpacked,
+        entries: cursor.entries,
+    }
+}
+
+// Puts a cursor together again.
+fn cursor_of(held: Held, docs: [u32; 128], freqs: [u32; 128]) -> SegmentPostings
+    ensures { λ r. ⌜ r ≡ cursorOf held docs freqs ⌝ }
+{
+    SegmentPostings {
+        docs,
+        freqs,
+        place: held.place,
+        block: held.block,
+        next: held.next,
+        last_doc: held.last_doc,
+        unpacked: held.unpacked,
+        entries: held.entries,
+    }
+}
+
+// A cursor with its answer.
+pub(crate) fn moved_to(held: Held, term: Term, docs: [u32; 128], freqs: [u32; 128]) -> Moved
+    requires { ⌜ held .place < 128 ⌝ }
+    ensures { λ r. ⌜ r ≡ record { answer = answerAt term (cursorOf held docs freqs); cursor = cursorOf held docs freqs } ⌝ }
+{
+    Moved {
+        answer: answer_at(held, term, &docs, &freqs),
+        cursor: cursor_of(held, docs, freqs),
+    }
+}
+
+// A cursor of no list: 128 places that hold TERMINATED, with frequency 1.
+fn blank() -> SegmentPostings
+    ensures { λ r. ⌜ r ≡ blank ⌝ }
+{
+    SegmentPostings {
+        docs: [2147483647; 128],
+        freqs: [1; 128],
+        place: 0,
+        block: 0,
+        next: 0,
+        last_doc: 0,
+        unpacked: 0,
+        entries: 0,
+    }
+}
+
+// Opens a list at its first document.
+pub fn open(image: &[u8], term: Term) -> Moved
+    ensures { λ r. ⌜ r ≡ opened (now (image .entry)) term ⌝ }
+{
+    let blank = blank();
+    let mut docs = blank.docs;
+    let mut freqs = blank.freqs;
+    match open_in(image, term, &mut docs, &mut freqs) {
+        Reached::At(held) => moved_to(held, term, docs, freqs),
+        Reached::Refused(n) => Moved {
+            answer: Answer::Refused(n),
+            cursor: blank,
+        },
+    }
+}
+
+// Steps to the next document; at the end nothing changes.
+pub fn advance(cursor: SegmentPostings, image: &[u8], term: Term) -> Moved
+    ensures { λ r. ⌜ r ≡ advanced cursor (now (image .entry)) term ⌝ }
+{
+    let mut docs = cursor.docs;
+    let mut freqs = cursor.freqs;
+    match step_in(held_of(cursor), image, term, &mut docs, &mut freqs) {
+        Reached::At(held) => moved_to(held, term, docs, freqs),
+        Reached::Refused(n) => Moved {
+            answer: Answer::Refused(n),
+            cursor,
+        },
+    }
+}
+
+// A value as an answer.
+fn value(x: u32) -> Value
+    ensures { λ r. ⌜ r ≡ Value.Is x ⌝ }
+{
+    Value::Is(x as u64)
+}
+
+// What stands at the position among 128 values, `end` at the end: the cursor's numbers decide.
+fn value_at(values: &[u32; 128], end: u32, held: Held, image: &[u8], term: Term) -> Value
+    ensures { λ r. ⌜ ((docs freqs : List ℕ) → r ≡ valued (valueAt (now (values .entry)) end (cursorOf held docs freqs) (now (image .entry)) term)) ⌝ }
+{
+    if !in_bounds(held, term, image.len()) {
+        return Value::Refused(STATE_BROKEN);
+    }
+    if at_end(held, term) {
+        return value(end);
+    }
+    let place = held.place;
+    value(values[place])
+}
+
+// The document at the position, TERMINATED at the end.
+pub fn doc(cursor: SegmentPostings, image: &[u8], term: Term) -> Value
+    ensures { λ r. ⌜ r ≡ valued (docAt cursor (now (image .entry)) term) ⌝ }
+{
+    let docs = cursor.docs;
+    value_at(&docs, TERMINATED, held_of(cursor), image, term)
+}
+
+// The frequency at the position, 0 at the end.
+pub fn term_freq(cursor: SegmentPostings, image: &[u8], term: Term) -> Value
+    ensures { λ r. ⌜ r ≡ valued (freqAt cursor (now (image .entry)) term) ⌝ }
+{
+    let freqs = cursor.freqs;
+    value_at(&freqs, 0, held_of(cursor), image, term)
+}

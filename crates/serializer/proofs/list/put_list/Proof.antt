@@ -1,0 +1,85 @@
+use mathlib.Core.Path.{_≡_, sym, _∙_}
+use native.Mathlib.Omega.{arith}
+use denote.Ref.{now}
+use lib.Seq.{length-take-le}
+use Rattle.serializer.proofs.ListBlocks.{image-parts, entries-refused, blocks-refused, fits-image}
+use borrow.Author.Needs.{needs}
+use Rattle.serializer.proofs.list.put_list.Statement.{statement}
+use Rattle.serializer.proofs.list.put_list.Tie as tie
+use Rattle.serializer.proofs.list.put_list.Reads as reads
+use Rattle.serializer.proofs.list.put_list.Lts as lts
+use Rattle.serializer.proofs.block.last_of.Reads as last-of-reads
+use Rattle.serializer.proofs.image.put_image.Reads as put-image-reads
+
+mul-at : tie.Need-mul-at
+mul-at c = search needs
+
+slice-aggregate-put-image : tie.Need-slice-aggregate-put-image
+slice-aggregate-put-image c = sym (length-take-le _ _ (c .before .before .before .before .before .before .pre .entries-there))
+
+slice-aggregate-put-image-2 : tie.Need-slice-aggregate-put-image-2
+slice-aggregate-put-image-2 c = sym (length-take-le _ _ (c .before .before .before .before .before .before .before .pre .blocks-there))
+
+slice-aggregate-last-of : tie.Need-slice-aggregate-last-of
+slice-aggregate-last-of c = sym (length-take-le _ _ (omega arith))
+
+last-of-requires : tie.Need-last-of-requires
+last-of-requires c κs = search needs
+
+mul-put-image : tie.Need-mul-put-image
+mul-put-image c = search needs
+
+sub-put-image : tie.Need-sub-put-image
+sub-put-image c = search needs
+
+part-put-image-start : tie.Need-part-put-image-start
+part-put-image-start c = search needs
+
+part-put-image-end : tie.Need-part-put-image-end
+part-put-image-end c = search needs
+
+mul-put-image-2 : tie.Need-mul-put-image-2
+mul-put-image-2 c = search needs
+
+sub-put-image-2 : tie.Need-sub-put-image-2
+sub-put-image-2 c = search needs
+
+part-put-image-start-2 : tie.Need-part-put-image-start-2
+part-put-image-start-2 c = search needs
+
+part-put-image-end-2 : tie.Need-part-put-image-end-2
+part-put-image-end-2 c = search needs
+
+put-image-requires : tie.Need-put-image-requires
+put-image-requires c κs = search needs
+
+same-length : tie.Need-same-length
+same-length c = search needs
+
+returns : tie.Need-returns
+returns c =
+    let last = c .before .before .before .before .before .before in
+    let start = last .before .before .before .before .before .before .before .before .before in
+    rw (← image-parts (start .args .option) (now (start .args .ids)) (now (start .args .freqs)) _ _ (start .pre .as-many) (last .last-of .ensures))
+    (c .before .before .put-image .ensures)
+
+pub put-list-spec : {M : Type 1} → statement M
+put-list-spec =
+    tie.close
+    (tie.spec
+    mul-at
+    slice-aggregate-put-image
+    slice-aggregate-put-image-2
+    slice-aggregate-last-of
+    last-of-requires
+    mul-put-image
+    sub-put-image
+    part-put-image-start
+    part-put-image-end
+    mul-put-image-2
+    sub-put-image-2
+    part-put-image-start-2
+    part-put-image-end-2
+    put-image-requires
+    same-length
+    returns)

@@ -1,0 +1,86 @@
+-- The outcomes of `Writer.antt` as the contracts cite them: answer, state and every lent byte.
+-- Assumes nothing.
+use mathlib.Core.Path.{_≡_}
+use mathlib.Core.Bool.{Bool, _&&_ as and}
+use mathlib.Core.List.{List, _++_}
+use Prim.Native.Nat.{ℕ, _+_, _/_}
+use lib.ListN.{length}
+use Rattle.format.specs.declared.IndexRecordOption.{IndexRecordOption}
+use Rattle.format.specs.Basics.{Outcome, ok, refused, choose, putAt, fitsAt}
+use Rattle.format.specs.Refusal.{noRoom}
+use Rattle.format.specs.Written.{headed}
+use Rattle.format.specs.Accepted.{keptIn}
+use Rattle.serializer.specs.declared.PostingsSerializer.{PostingsSerializer}
+use Rattle.serializer.specs.declared.Answer.{Answer}
+use Rattle.serializer.specs.declared.Answer.the-variants.{Bytes, Refused}
+use Rattle.serializer.specs.declared.Placed.{Placed}
+use Rattle.serializer.specs.declared.Placed.the-variants.{At, NoRoom}
+use Rattle.serializer.specs.declared.Step.{Step}
+use Rattle.serializer.specs.Pieces.{tailWith}
+use Rattle.serializer.specs.Writer.{Areas, after, fresh, begun, taking, closing, listing, blocksOf, entryOf, blockOf}
+
+-- what an outcome answers, given the number of bytes that a good one gives
+unfoldable pub answered : {A : Type 0} → (A → ℕ) → Outcome A → Answer
+answered bytes (ok a) = Bytes (bytes a)
+answered bytes (refused n) = Refused n
+
+-- a term begins
+unfoldable pub beginning : ℕ → Bool → Step
+unfolding answered begun fresh
+beginning mode recording = record { answer = answered (λ n. n) (begun mode recording); state = fresh mode recording }
+
+-- what a call that may write into the areas answers and leaves; a refusal leaves all as it was
+pub record Settled (o : Outcome Areas) (s : PostingsSerializer) (skips postings skips′ postings′ : List ℕ) (r : Step) : Type 0 where
+  pub answer : r .answer ≡ answered (λ _. 0) o
+  pub state : r .state ≡ after (λ a. a .state) o s
+  pub skips-after : skips′ ≡ after (λ a. a .skips) o skips
+  pub postings-after : postings′ ≡ after (λ a. a .postings) o postings
+
+-- one document more
+abbrev pub Took : PostingsSerializer → ℕ → ℕ → (skips postings skips′ postings′ : List ℕ) → Step → Type 0
+Took s d f skips postings skips′ postings′ r = Settled (taking s d f skips postings) s skips postings skips′ postings′ r
+
+-- closing: the image at the output's front, and a fresh state
+pub record Closed (s : PostingsSerializer) (announced : ℕ) (skips postings output output′ : List ℕ) (r : Step) : Type 0 where
+  pub answer : r .answer ≡ answered length (closing s announced skips postings output)
+  pub state : r .state ≡ after (λ _. fresh (s .mode) (s .recording)) (closing s announced skips postings output) s
+  pub output-after : output′ ≡ after (λ image. putAt 0 image output) (closing s announced skips postings output) output
+
+-- a whole list
+pub record Listed (mode : ℕ) (recording : Bool) (ds fs skips postings output skips′ postings′ output′ : List ℕ) (r : Answer) : Type 0 where
+  pub answer : r ≡ answered length (listing mode recording ds fs skips postings output)
+  pub skips-after :
+      skips′
+      ≡ after (λ _. putAt 0 (blocksOf (keptIn mode recording) (length ds / 128) 0 ds fs .skips) skips)
+      (listing mode recording ds fs skips postings output) skips
+  pub postings-after :
+      postings′
+      ≡ after (λ _. putAt 0 (blocksOf (keptIn mode recording) (length ds / 128) 0 ds fs .postings) postings)
+      (listing mode recording ds fs skips postings output) postings
+  pub output-after : output′ ≡ after (λ image. putAt 0 image output) (listing mode recording ds fs skips postings output) output
+
+-- ---- the private functions below them
+
+-- a full block and its entry, into their areas from two places on, if both fit
+unfoldable pub blockFits : IndexRecordOption → ℕ → List ℕ → List ℕ → ℕ → ℕ → List ℕ → List ℕ → Bool
+unfolding entryOf blockOf fitsAt
+blockFits option least ds fs p q skips postings = and (fitsAt p (entryOf option least ds fs) skips) (fitsAt q (blockOf option least ds fs) postings)
+
+pub record BlockWritten (option : IndexRecordOption) (least : ℕ) (ds fs : List ℕ) (p q : ℕ) (skips postings skips′ postings′ : List ℕ) (r : Placed) : Type 0 where
+  pub placed :
+      r
+      ≡ choose (blockFits option least ds fs p q skips postings)
+      (λ _. At (p + length (entryOf option least ds fs)) (q + length (blockOf option least ds fs))) (λ _. NoRoom)
+  pub skips-after : skips′ ≡ choose (blockFits option least ds fs p q skips postings) (λ _. putAt p (entryOf option least ds fs) skips) (λ _. skips)
+  pub postings-after :
+      postings′ ≡ choose (blockFits option least ds fs p q skips postings) (λ _. putAt q (blockOf option least ds fs) postings) (λ _. postings)
+
+-- the image of n full blocks, given as the bytes of their entries and their own, and a tail
+unfoldable pub imageWith : ℕ → List ℕ → List ℕ → IndexRecordOption → ℕ → List ℕ → List ℕ → List ℕ
+unfolding headed tailWith
+imageWith n skips postings option offset ds fs = headed n (record { skips = skips; postings = postings ++ tailWith option offset ds fs })
+
+-- .. at the front of the output, if it fits
+pub record ImagePut (image output output′ : List ℕ) (r : Answer) : Type 0 where
+  pub answer : r ≡ choose (fitsAt 0 image output) (λ _. Bytes (length image)) (λ _. Refused noRoom)
+  pub output-after : output′ ≡ putAt 0 image output

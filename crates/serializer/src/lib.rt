@@ -1,0 +1,142 @@
+// The writer: documents and frequencies in, the bytes of one term's image out. The port of serializer.rs.
+
+mod block;
+mod bounds;
+mod document;
+mod image;
+mod list;
+
+use crate::bounds::in_bounds;
+use crate::document::may_take;
+use crate::document::take;
+use crate::image::put_term;
+use format::COUNT_MISMATCH;
+use format::STATE_BROKEN;
+use format::UNKNOWN_MODE;
+pub use list::write_list;
+ghost use mathlib.Core.Path.{_≡_};
+ghost use Rattle.serializer.specs.Calls.{beginning, Took, Closed};
+ghost use Rattle.serializer.specs.Writer as specs;
+
+// A term being written. Finished blocks and their entries lie in two areas that the caller lends to each call.
+pub struct PostingsSerializer {
+    // The documents that wait for their block to fill, and their frequencies.
+    pub docs: [u32; 128],
+    pub freqs: [u32; 128],
+    pub mode: u8,
+    pub recording: bool,
+    pub waiting: usize,
+    // The last id of the last finished block.
+    pub last_doc: u32,
+    // How many documents were taken, in blocks and waiting.
+    pub taken: u32,
+    // How far the entries and the blocks reach in their areas.
+    pub skips_at: usize,
+    pub postings_at: usize,
+}
+
+// What a call answers: a number of bytes, 0 where it gives none; or the number of the question that was answered no.
+pub enum Answer {
+    Bytes(usize),
+    Refused(u8),
+}
+
+// An answer with the state after it.
+pub struct Step {
+    pub answer: Answer,
+    pub state: PostingsSerializer,
+}
+
+// Where the areas reach behind a block; or that one of them has no room for it.
+pub enum Placed {
+    At { skips: usize, postings: usize },
+    NoRoom,
+}
+
+// A state that holds no document.
+fn fresh(mode: u8, recording: bool) -> PostingsSerializer
+    ensures { λ r. ⌜ r ≡ specs.fresh mode recording ⌝ }
+{
+    let docs = [0u32; 128];
+    let freqs = [0u32; 128];
+    PostingsSerializer {
+        docs,
+        freqs,
+        mode,
+        recording,
+        waiting: 0,
+        last_doc: 0,
+        taken: 0,
+        skips_at: 0,
+        postings_at: 0,
+    }
+}
+
+// Begins a term: its mode, 0 or 1, and whether its frequencies are recorded.
+pub fn new_term(mode: u8, recording: bool) -> Step
+    ensures { λ r. ⌜ r ≡ beginning mode recording ⌝ }
+{
+    let state = fresh(mode, recording);
+    if 1 < mode {
+        return Step {
+            answer: Answer::Refused(UNKNOWN_MODE),
+            state,
+        };
+    }
+    Step {
+        answer: Answer::Bytes(0),
+        state,
+    }
+}
+
+// Takes one document more. One that fills a block has it written into the areas, behind what they hold so far.
+pub fn write_doc(
+    state: PostingsSerializer,
+    doc: u32,
+    freq: u32,
+    skips: &mut [u8],
+    postings: &mut [u8],
+) -> Step
+    ensures { λ r. ⌜ Took state doc freq (now (skips .entry)) (now (postings .entry)) (now (skips .exit)) (now (postings .exit)) r ⌝ }
+{
+    let asked = may_take(state, doc, freq, skips.len(), postings.len());
+    let Answer::Bytes(_) = asked else {
+        return Step {
+            answer: asked,
+            state,
+        };
+    };
+    take(state, doc, freq, skips, postings)
+}
+
+// Closes a term of as many documents as announced: its image goes to the front of the output, and a fresh state is left.
+pub fn close_term(
+    state: PostingsSerializer,
+    announced: u32,
+    skips: &[u8],
+    postings: &[u8],
+    output: &mut [u8],
+) -> Step
+    ensures { λ r. ⌜ Closed state announced (now (skips .entry)) (now (postings .entry)) (now (output .entry)) (now (output .exit)) r ⌝ }
+{
+    if !in_bounds(state, skips.len(), postings.len()) {
+        return Step {
+            answer: Answer::Refused(STATE_BROKEN),
+            state,
+        };
+    }
+    if state.taken != announced {
+        return Step {
+            answer: Answer::Refused(COUNT_MISMATCH),
+            state,
+        };
+    }
+    let put = put_term(state, skips, postings, output);
+    let Answer::Bytes(_) = put else {
+        return Step { answer: put, state };
+    };
+    Step {
+        answer: put,
+        state: fresh(state.mode, state.recording),
+    }
+}

@@ -1,0 +1,325 @@
+// A whole list in one call. All questions are asked before a byte is written, so that a refusal leaves everything lent as it was.
+
+use crate::Answer;
+use crate::Placed;
+use crate::block::last_of;
+use crate::block::write_block;
+use crate::image::image_fits;
+use crate::image::put_image;
+use compression::bitpacking::num_bits;
+use compression::compressed_block_size;
+use compression::values::reduce_docs;
+use compression::values::reduce_freqs;
+use format::COUNT_MISMATCH;
+use format::FREQ_ZERO;
+use format::ID_NOT_RISING;
+use format::ID_TOO_LARGE;
+use format::IndexRecordOption;
+use format::NO_ROOM;
+use format::TERMINATED;
+use format::UNKNOWN_MODE;
+use skip::entry_size;
+use skip::has_freq;
+use skip::record_option;
+ghost use mathlib.Core.Path.{_≡_};
+ghost use mathlib.Core.Bool.{true, not, _||_ as or};
+ghost use Prim.Native.Nat.{ℕ, _+_, _*_, _/_, _≤_};
+ghost use lib.Dec.{leb};
+ghost use lib.ListN.{length, take, drop};
+ghost use Rattle.format.specs.Bitpacking.{width};
+ghost use Rattle.format.specs.SkipEntry.{hasFreq, entrySize};
+ghost use Rattle.format.specs.Accepted.{takeDocs};
+ghost use Rattle.serializer.specs.Writer.{docValues, freqValues, blockOf};
+ghost use Rattle.serializer.specs.Calls.{answered, BlockWritten, ImagePut, Listed};
+ghost use Rattle.serializer.specs.Whole.{Checked, ListSized, BlockThere, PartsThere, fullBlocks, imageFrom, blocksFit, listFits, BlocksPut, ListPut};
+
+// The least frequency that question 13 lets pass.
+fn least_freq(option: IndexRecordOption) -> u32
+    ensures { λ r. ⌜ ((f : ℕ) → leb r f ≡ or (not (hasFreq option)) (leb 1 f)) ⌝ }
+{
+    match option {
+        IndexRecordOption::Basic => 0,
+        IndexRecordOption::WithFreqs => 1,
+    }
+}
+
+// Questions 11 to 13, document by document.
+fn check_docs(option: IndexRecordOption, ids: &[u32], freqs: &[u32]) -> Answer
+    requires { ⌜ length (now ids) ≡ length (now freqs) ⌝ }
+    ensures { λ r. ⌜ r ≡ answered (λ _. 0) (takeDocs option 0 (now (ids .entry)) (now (freqs .entry))) ⌝ }
+{
+    let least_freq = least_freq(option);
+    let mut least = 0u32;
+    for i in 0..ids.len() {
+        let doc = ids[i];
+        if TERMINATED <= doc {
+            return Answer::Refused(ID_TOO_LARGE);
+        }
+        if doc < least {
+            return Answer::Refused(ID_NOT_RISING);
+        }
+        if freqs[i] < least_freq {
+            return Answer::Refused(FREQ_ZERO);
+        }
+        least = doc + 1;
+    }
+    Answer::Bytes(0)
+}
+
+// The 128 values from place `at` on.
+fn copy_block(values: &[u32], at: usize) -> [u32; 128]
+    requires { ⌜ at + 128 ≤ length (now values) ⌝ }
+    ensures { λ r. ⌜ r ≡ take 128 (drop at (now (values .entry))) ⌝ }
+{
+    let mut block = [0u32; 128];
+    let mut i = 0;
+    while i < 128 {
+        block[i] = values[at + i];
+        i += 1;
+    }
+    block
+}
+
+// The width of the document values of the block at `at`.
+fn docs_width(ids: &[u32], at: usize, least: u32) -> u8
+    requires { ⌜ at + 128 ≤ length (now ids) ⌝ }
+    ensures { λ r. ⌜ r ≡ width (docValues least (take 128 (drop at (now (ids .entry))))) ⌝ }
+{
+    let mut block = copy_block(ids, at);
+    reduce_docs(&mut block, least);
+    num_bits(&block)
+}
+
+// The width of its frequency values, 0 where frequencies aren't kept.
+fn freqs_width(option: IndexRecordOption, freqs: &[u32], at: usize) -> u8
+    requires { ⌜ at + 128 ≤ length (now freqs) ⌝ }
+    ensures { λ r. ⌜ r ≡ width (freqValues option (take 128 (drop at (now (freqs .entry))))) ⌝ }
+{
+    if !has_freq(option) {
+        return 0;
+    }
+    let mut block = copy_block(freqs, at);
+    reduce_freqs(&mut block);
+    num_bits(&block)
+}
+
+// The bytes of the block at `at`.
+fn block_size(option: IndexRecordOption, least: u32, ids: &[u32], freqs: &[u32], at: usize) -> usize
+    requires { ⌜ (at + 128 ≤ length (now ids)) × (at + 128 ≤ length (now freqs)) ⌝ }
+    ensures { λ r. ⌜ r ≡ length (blockOf option least (take 128 (drop at (now (ids .entry)))) (take 128 (drop at (now (freqs .entry))))) ⌝ }
+{
+    compressed_block_size(docs_width(ids, at, least) + freqs_width(option, freqs, at))
+}
+
+// The bytes of all full blocks.
+fn blocks_size(option: IndexRecordOption, ids: &[u32], freqs: &[u32]) -> usize
+    requires { ⌜ Checked (now ids) (now freqs) ⌝ }
+    ensures { λ r. ⌜ r ≡ length (fullBlocks option (now (ids .entry)) (now (freqs .entry)) .postings) ⌝ }
+{
+    let mut size = 0;
+    let mut least = 0u32;
+    for n in 0..ids.len() / 128 {
+        let at = 128 * n;
+        size += block_size(option, least, ids, freqs, at);
+        least = ids[at + 127] + 1;
+    }
+    size
+}
+
+// The bytes of their entries.
+fn entries_size(option: IndexRecordOption, ids: &[u32]) -> usize
+    ensures { λ r. ⌜ r ≡ entrySize option * (length (now (ids .entry)) / 128) ⌝ }
+{
+    entry_size(option) * (ids.len() / 128)
+}
+
+// Question 15; `entries` and `size` are the bytes of the entries and of the full blocks.
+fn list_fits(
+    option: IndexRecordOption,
+    ids: &[u32],
+    freqs: &[u32],
+    entries: usize,
+    size: usize,
+    skips: &[u8],
+    postings: &[u8],
+    len: usize,
+) -> bool
+    requires { ⌜ ListSized option (now ids) (now freqs) entries size ⌝ }
+    ensures { λ r. ⌜ r ≡ listFits option (now (ids .entry)) (now (freqs .entry)) (now (skips .entry)) (now (postings .entry)) len ⌝ }
+{
+    if skips.len() < entries {
+        return false;
+    }
+    if postings.len() < size {
+        return false;
+    }
+    let full = ids.len() / 128;
+    let at = 128 * full;
+    image_fits(
+        full,
+        &skips[..entries],
+        &postings[..size],
+        option,
+        last_of(&ids[..at]),
+        &ids[at..],
+        &freqs[at..],
+        len,
+    )
+}
+
+// Writes the block of the documents at `at`, and its entry.
+fn write_next(
+    option: IndexRecordOption,
+    least: u32,
+    ids: &[u32],
+    freqs: &[u32],
+    at: usize,
+    skips: &mut [u8],
+    skips_at: usize,
+    postings: &mut [u8],
+    postings_at: usize,
+) -> Placed
+    requires { ⌜ BlockThere least at (now ids) (now freqs) ⌝ }
+    ensures { λ r. ⌜ BlockWritten option least (take 128 (drop at (now (ids .entry)))) (take 128 (drop at (now (freqs .entry)))) «skips_at» «postings_at»
+        (now (skips .entry)) (now (postings .entry)) (now (skips .exit)) (now (postings .exit)) r ⌝ }
+{
+    let docs = copy_block(ids, at);
+    let counts = copy_block(freqs, at);
+    write_block(
+        option,
+        least,
+        &docs,
+        &counts,
+        skips,
+        skips_at,
+        postings,
+        postings_at,
+    )
+}
+
+// Writes all full blocks and their entries, which fit.
+fn write_blocks(
+    option: IndexRecordOption,
+    ids: &[u32],
+    freqs: &[u32],
+    skips: &mut [u8],
+    postings: &mut [u8],
+)
+    requires { ⌜ Checked (now ids) (now freqs) × (blocksFit option (now ids) (now freqs) (now skips) (now postings) ≡ true) ⌝ }
+    ensures { λ _. ⌜ BlocksPut option (now (ids .entry)) (now (freqs .entry)) (now (skips .entry)) (now (postings .entry)) (now (skips .exit)) (now (postings .exit)) ⌝ }
+{
+    let mut least = 0u32;
+    let mut skips_at = 0;
+    let mut postings_at = 0;
+    for n in 0..ids.len() / 128 {
+        let at = 128 * n;
+        let Placed::At {
+            skips: s,
+            postings: p,
+        } = write_next(
+            option,
+            least,
+            ids,
+            freqs,
+            at,
+            skips,
+            skips_at,
+            postings,
+            postings_at,
+        )
+        else {
+            return;
+        };
+        skips_at = s;
+        postings_at = p;
+        least = ids[at + 127] + 1;
+    }
+}
+
+// Puts the image together of the entries and the full blocks in their areas and of the tail.
+fn put_list(
+    option: IndexRecordOption,
+    ids: &[u32],
+    freqs: &[u32],
+    entries: usize,
+    size: usize,
+    skips: &[u8],
+    postings: &[u8],
+    output: &mut [u8],
+) -> Answer
+    requires { ⌜ PartsThere (now ids) (now freqs) entries size (now skips) (now postings) ⌝ }
+    ensures { λ r. ⌜ ImagePut (imageFrom option (now (ids .entry)) (now (freqs .entry)) (take entries (now (skips .entry))) (take size (now (postings .entry))))
+        (now (output .entry)) (now (output .exit)) r ⌝ }
+{
+    let full = ids.len() / 128;
+    let at = 128 * full;
+    put_image(
+        full,
+        &skips[..entries],
+        &postings[..size],
+        option,
+        last_of(&ids[..at]),
+        &ids[at..],
+        &freqs[at..],
+        output,
+    )
+}
+
+// Writes a list that passed questions 11 to 14: question 15, then the bytes.
+fn write_checked(
+    option: IndexRecordOption,
+    ids: &[u32],
+    freqs: &[u32],
+    skips: &mut [u8],
+    postings: &mut [u8],
+    output: &mut [u8],
+) -> Answer
+    requires { ⌜ Checked (now ids) (now freqs) ⌝ }
+    ensures { λ r. ⌜ ListPut option (now (ids .entry)) (now (freqs .entry)) (now (skips .entry)) (now (postings .entry)) (now (output .entry))
+        (now (skips .exit)) (now (postings .exit)) (now (output .exit)) r ⌝ }
+{
+    let entries = entries_size(option, ids);
+    let size = blocks_size(option, ids, freqs);
+    if !list_fits(
+        option,
+        ids,
+        freqs,
+        entries,
+        size,
+        skips,
+        postings,
+        output.len(),
+    ) {
+        return Answer::Refused(NO_ROOM);
+    }
+    write_blocks(option, ids, freqs, skips, postings);
+    put_list(option, ids, freqs, entries, size, skips, postings, output)
+}
+
+// Writes a whole list: its image to the front of the output, the entries and the blocks of its full blocks to the fronts of the two
+// areas. Where it answers a refusal, nothing is written.
+pub fn write_list(
+    mode: u8,
+    recording: bool,
+    ids: &[u32],
+    freqs: &[u32],
+    skips: &mut [u8],
+    postings: &mut [u8],
+    output: &mut [u8],
+) -> Answer
+    ensures { λ r. ⌜ Listed mode recording (now (ids .entry)) (now (freqs .entry)) (now (skips .entry)) (now (postings .entry)) (now (output .entry))
+        (now (skips .exit)) (now (postings .exit)) (now (output .exit)) r ⌝ }
+{
+    if 1 < mode {
+        return Answer::Refused(UNKNOWN_MODE);
+    }
+    if ids.len() != freqs.len() {
+        return Answer::Refused(COUNT_MISMATCH);
+    }
+    let option = record_option(mode, recording);
+    let checked = check_docs(option, ids, freqs);
+    if let Answer::Refused(n) = checked {
+        return Answer::Refused(n);
+    }
+    write_checked(option, ids, freqs, skips, postings, output)
+}

@@ -1,0 +1,161 @@
+//! The writing runs: what `exports` writes and refuses, beside the Rust's bytes and document 01's
+//! numbers.
+
+use differential::linked::{write_docs, write_list, Lent};
+use differential::lists::{all_lists, documents, Form, List};
+use differential::oracle::{self, TERMINATED};
+
+use crate::{equal, Bytes, Outcome};
+
+/// The function that is called, the second one with the count that it announces.
+#[derive(Clone, Copy, Debug)]
+enum By {
+    List,
+    Docs(u32),
+}
+
+/// A list of as many ids as frequencies: written as the Rust writes it, or refused for its first
+/// bad document.
+pub fn check(list: &List) -> Outcome {
+    match refusal(list) {
+        None => accepted(list),
+        Some(number) => {
+            let (count, blocks) = (list.ids.len(), list.ids.len() / 128);
+            let ample = [8 * blocks, 1008 * blocks, 1016 * blocks + 10 * count + 10];
+            run(By::List, list, ample, Err(number))?;
+            run(By::Docs(count as u32), list, ample, Err(number))?;
+            // A whole list meets the lack of room last.
+            run(By::List, list, [0; 3], Err(number))
+        }
+    }
+}
+
+/// What is asked before any document: the mode, then, of a whole list, as many ids as frequencies.
+pub fn check_beginning() -> Outcome {
+    let list =
+        |mode, ids| List { mode, record: true, ids: vec![TERMINATED; ids], freqs: vec![0; 2] };
+    for mode in [2, 3, 255] {
+        run(By::List, &list(mode, 3), [0; 3], Err(1))?;
+        run(By::Docs(5), &list(mode, 2), [0; 3], Err(1))?;
+    }
+    for mode in [0, 1] {
+        for ids in [0, 1, 3] {
+            run(By::List, &list(mode, ids), [0; 3], Err(14))?;
+        }
+    }
+    Ok(())
+}
+
+/// All lists of up to three documents over the numbers at the limits, most of them bad.
+pub fn short_lists(form: Form) -> Vec<List> {
+    all_lists(form, |list| match list.ids.len() {
+        3 => vec![],
+        _ => documents([0, 1, 2, TERMINATED - 1, TERMINATED, u32::MAX], &[0, 1, u32::MAX]),
+    })
+}
+
+/// The list with its document at a place spoiled, in each way and in two ways at once.
+pub fn spoiled(list: &List, place: usize) -> Vec<List> {
+    let (id, freq) = (list.ids[place], list.freqs[place]);
+    let mut documents = vec![(TERMINATED, freq), (u32::MAX, 0), (id, 0)];
+    if place > 0 {
+        documents.extend([(list.ids[place - 1], freq), (list.ids[0], 0)]);
+    }
+    let with = |(id, freq)| {
+        let mut list = list.clone();
+        list.ids[place] = id;
+        list.freqs[place] = freq;
+        list
+    };
+    documents.into_iter().map(with).collect()
+}
+
+/// The number under which document 01 refuses a list for one of its documents.
+fn refusal(list: &List) -> Option<u64> {
+    let mut previous = None;
+    for (&id, &freq) in list.ids.iter().zip(&list.freqs) {
+        if id >= TERMINATED {
+            return Some(11);
+        }
+        if previous.is_some_and(|previous| id <= previous) {
+            return Some(12);
+        }
+        if list.kept() && freq == 0 {
+            return Some(13);
+        }
+        previous = Some(id);
+    }
+    None
+}
+
+fn accepted(list: &List) -> Outcome {
+    let image = oracle::write(list.mode, list.record, &list.ids, &list.freqs);
+    let (skips, postings) = areas(list, &image);
+    let count = list.ids.len() as u32;
+    let exact = [skips.len(), postings.len(), image.len()];
+    for by in [By::List, By::Docs(count)] {
+        for spare in [0, 100] {
+            let lengths = exact.map(|length| length + spare);
+            run(by, list, lengths, Ok([skips, postings, &image]))?;
+        }
+        for short in 0..3 {
+            let mut lengths = exact;
+            if lengths[short] > 0 {
+                lengths[short] -= 1;
+                run(by, list, lengths, Err(15))?;
+            }
+        }
+    }
+    // Closing asks for the announced count before it asks for room.
+    for announced in [count + 1, count.wrapping_sub(1)] {
+        run(By::Docs(announced), list, exact, Err(14))?;
+        run(By::Docs(announced), list, [exact[0], exact[1], 0], Err(14))?;
+    }
+    Ok(())
+}
+
+/// The skip entries and the packed blocks inside an image, which the two areas hold afterwards.
+fn areas<'a>(list: &List, image: &'a [u8]) -> (&'a [u8], &'a [u8]) {
+    let blocks = list.ids.len() / 128;
+    if blocks == 0 {
+        return (&[], &[]);
+    }
+    let size = if list.kept() { 8 } else { 5 };
+    // Of the skip length's bytes the last alone has its top bit set.
+    let begin = 1 + image.iter().position(|byte| *byte >= 128).unwrap();
+    let (skips, rest) = image[begin..].split_at(size * blocks);
+    let width = |entry: &[u8]| entry[4] % 32 + if list.kept() { entry[5] } else { 0 };
+    let bits: usize = skips.chunks(size).map(|entry| usize::from(width(entry))).sum();
+    (skips, &rest[..16 * bits])
+}
+
+/// Wanted are skip entries, packed blocks and image at the start of the three buffers, or the
+/// refusal.
+fn run(by: By, list: &List, lengths: [usize; 3], wanted: Result<[&[u8]; 3], u64>) -> Outcome {
+    let mut found = lent([&[]; 3], lengths);
+    let answer = match by {
+        By::List => write_list(list, &mut found),
+        By::Docs(announced) => write_docs(list, announced, &mut found),
+    };
+    let mut after = lent(wanted.unwrap_or_default(), lengths);
+    // Blocks that single documents finished before the refused call stay in the areas.
+    if matches!((by, wanted), (By::Docs(_), Err(_))) {
+        after.skips.clone_from(&found.skips);
+        after.postings.clone_from(&found.postings);
+    }
+    let what = |part| format!("{by:?} into {lengths:?} bytes, {part}");
+    equal(|| what("answer"), answer, wanted.map(|[.., image]| image.len() as u64))?;
+    equal(|| what("skips"), Bytes(&found.skips), Bytes(&after.skips))?;
+    equal(|| what("postings"), Bytes(&found.postings), Bytes(&after.postings))?;
+    equal(|| what("output"), Bytes(&found.output), Bytes(&after.output))
+}
+
+/// Buffers with these contents in front, and behind them bytes that differ and must stay.
+fn lent(contents: [&[u8]; 3], lengths: [usize; 3]) -> Lent {
+    let [skips, postings, output] = [0, 1, 2].map(|which| {
+        let mut bytes: Vec<u8> = (0..lengths[which]).map(|i| (89 * i + 171) as u8).collect();
+        bytes[..contents[which].len()].copy_from_slice(contents[which]);
+        bytes
+    });
+    Lent { skips, postings, output }
+}
