@@ -31,7 +31,7 @@ split-numbered t bs Malformed = rw split-malformed (omega arith)
 split-numbered t bs (Number size used) =
     rw (split-number, sized-is) (ask-numbered _ _ _ (omega arith) (ask-numbered _ _ _ (omega arith) tt))
 
-layout-numbered : (t : Term) (bs : List ℕ) → Numbered (layout t bs)
+pub layout-numbered : (t : Term) (bs : List ℕ) → Numbered (layout t bs)
 layout-numbered t bs =
     rw layout-is
     (ask-numbered _ _ _ (omega arith)

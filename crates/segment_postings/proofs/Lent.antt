@@ -186,6 +186,15 @@ reached-at {o} {docs} {freqs} {docs′} {freqs′} {r} {h} k e = go o (sym (k .a
     go (ok c) a d f = let s : heldOf c ≡ h = cc in rw (d, f) (ap (λ (x : Held). ok (cursorOf x (c .docs) (c .freqs))) s)
     go (refused n) a d f = absurd (let z : _≡_ {A = ℕ} 0 1 = cc in omega arith)
 
+pub reached-nowhere : {o : Outcome SegmentPostings} {docs freqs docs′ freqs′ : List ℕ} {r : Reached} {n : ℕ}
+    → Reaches o docs freqs docs′ freqs′ r → r ≡ reached-as.Refused n → o ≡ refused n
+unfolding reached
+reached-nowhere {o} {n = n} k e = go o (sym (k .answer) ∙ e)
+  where
+    go : (o : Outcome SegmentPostings) → reached o ≡ reached-as.Refused n → o ≡ refused n
+    go (ok c) a = absurd (let z : _≡_ {A = ℕ} 0 1 = cc in omega arith)
+    go (refused m) a = cc
+
 -- a cursor taken apart
 pub same-cursor : (c : SegmentPostings) {h : Held} → h ≡ heldOf c → cursorOf h (c .docs) (c .freqs) ≡ c
 unfolding cursorOf heldOf
@@ -200,12 +209,8 @@ moved-at t before e = rw e
 pub moved-nowhere : (t : Term) (before : SegmentPostings) {o : Outcome SegmentPostings} {docs freqs docs′ freqs′ : List ℕ} {r : Reached} {n : ℕ}
     → Reaches o docs freqs docs′ freqs′ r → r ≡ reached-as.Refused n
     → moved t before o ≡ record { answer = answer-as.Refused n; cursor = before }
-unfolding moved reached
-moved-nowhere t before {o} {n = n} k e = go o (sym (k .answer) ∙ e)
-  where
-    go : (o : Outcome SegmentPostings) → reached o ≡ reached-as.Refused n → moved t before o ≡ record { answer = answer-as.Refused n; cursor = before }
-    go (ok c) a = absurd (let z : _≡_ {A = ℕ} 0 1 = cc in omega arith)
-    go (refused m) a = let s : m ≡ n = cc in rw s
+unfolding moved
+moved-nowhere t before k e = rw (reached-nowhere k e)
 
 -- a landing is at its block's first place
 pub landing-first : (t : Term) (bs : List ℕ) (l : Layout) (target b at least entries unpacked : ℕ) {c : SegmentPostings}

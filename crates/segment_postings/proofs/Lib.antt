@@ -1,4 +1,5 @@
 pub mod Agrees
+pub mod BlockHeld
 pub mod Bounds
 pub mod CallsShow
 pub mod FoundBlock
@@ -15,6 +16,8 @@ pub mod SeekAgrees
 pub mod SeekMoves
 pub mod Sought
 pub mod Taking
+pub mod TotalBlocks
+pub mod TotalWalk
 pub mod Turns
 pub mod Walk
 pub mod WalkShows

@@ -60,7 +60,7 @@ module _ (t : Term) (l : Layout) (bs : List ℕ) where
           rw (find-here (l .option) (skipBytes l bs) bs 0 (fullBlocks t) b at least entries e some refl t₅ zero-le)
           (load-full t l bs (record { block = b; at = at; least = least; info = e; entries = entries + 1 }) some)
 
-      entry-same : entryBlock (l .option) (ltb 0 (t .requested)) least (drop (entrySize (l .option) * b) (skipBytes l bs)) (drop at bs)
+      pub entry-same : entryBlock (l .option) (ltb 0 (t .requested)) least (drop (entrySize (l .option) * b) (skipBytes l bs)) (drop at bs)
           ≡ loadedAt b at least entries
       unfolding ask
       entry-same = rw (entryBlock-is, length-drop) (go (entryFits least (length bs - at) e) refl)
@@ -116,11 +116,11 @@ module _ (t : Term) (l : Layout) (bs : List ℕ) where
     loadedAt-none h = rw h
 
     module _ {f : Found} (found : findBlock (l .option) (skipBytes l bs) bs 0 (fullBlocks t - b) b at least entries ≡ ok f) where
-      loadedAt-found : loadedAt b at least entries ≡ loadBlock t l bs f
+      pub loadedAt-found : loadedAt b at least entries ≡ loadBlock t l bs f
       unfolding loadedAt andThen
       loadedAt-found = rw found
 
-      found-entry : b < fullBlocks t → f ≡ record { block = b; at = at; least = least; info = e; entries = entries + 1 }
+      pub found-entry : b < fullBlocks t → f ≡ record { block = b; at = at; least = least; info = e; entries = entries + 1 }
       found-entry some = go (entryFits least (length bs - at) e) refl
         where
           go : (t₅ : Bool) → entryFits least (length bs - at) e ≡ t₅

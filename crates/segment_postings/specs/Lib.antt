@@ -1,3 +1,4 @@
 pub mod Calls
 pub mod Cursor
+pub mod Passed
 pub mod Taken

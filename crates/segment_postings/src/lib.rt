@@ -5,6 +5,7 @@ use format::BlockInfo;
 use format::Layout;
 
 mod core;
+mod counts;
 mod find;
 pub mod layout;
 mod load;
@@ -12,6 +13,7 @@ mod seeks;
 mod segment_postings;
 pub mod validate;
 
+pub use crate::counts::total;
 pub use crate::seeks::rank;
 pub use crate::seeks::seek;
 pub use crate::segment_postings::advance;
