@@ -8,6 +8,7 @@ pub mod Choice
 pub mod Digits
 pub mod FullBlock
 pub mod Gaps
+pub mod IdsBelow
 pub mod ImageLayout
 pub mod Lanes
 pub mod Lists

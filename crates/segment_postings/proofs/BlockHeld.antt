@@ -12,11 +12,11 @@ use lib.Seq.{take-at}
 use Rattle.format.specs.declared.BlockInfo.{BlockInfo}
 use Rattle.format.specs.declared.Layout.{Layout}
 use Rattle.format.specs.declared.Term.{Term}
-use Rattle.format.specs.Basics.{ok, choose, TERMINATED}
+use Rattle.format.specs.Basics.{Outcome, ok, refused, andThen, choose, TERMINATED}
 use Rattle.format.specs.SkipEntry.{blockSize}
 use Rattle.format.specs.Layout.{fullBlocks, tailLength, skipBytes}
 use Rattle.format.specs.Reading.{Block, nothing, before}
-use Rattle.format.proofs.Outcome.{ok-same, andThen-ok}
+use Rattle.format.proofs.Outcome.{refused≢ok, ok-same, andThen-ok}
 use Rattle.format.proofs.SkipEntry.{entryFits-true}
 use Rattle.format.proofs.SoundBlock.{SoundBlock, fullBlock-sound, tailBlock-sound, entryBlock-read}
 use Rattle.segment_postings.specs.declared.Found.{Found}
@@ -28,7 +28,8 @@ use Rattle.segment_postings.specs.Passed.{docsIn}
 use Rattle.segment_postings.proofs.FoundBlock.{entryOf}
 use Rattle.segment_postings.proofs.Questions.{load-full, load-tail}
 use Rattle.segment_postings.proofs.Turns.{landing-is}
-use Rattle.segment_postings.proofs.Walk.{loadedAt, loadedAt-found, readingAt, readingAt-entry, readingAt-tail, entry-same, found-entry, found-same}
+use Rattle.segment_postings.proofs.Walk.{loadedAt, loadedAt-found, loadedAt-numbered, reads-none, readingAt, readingAt-entry, readingAt-tail}
+use Rattle.segment_postings.proofs.Walk.{entry-same, found-entry, found-same}
 
 -- ---- how many documents a block holds
 
@@ -80,6 +81,17 @@ held-of f unpacked block e =
 
 -- ---- the walk
 
+-- what is made of a block that was read asks no question
+loads-none : {A B C : Type 0} (o : Outcome A) (g : A → Outcome B) (k : A → B → C) {n : ℕ}
+    → andThen o (λ a. andThen (g a) λ b. ok (k a b)) ≡ refused n → andThen o g ≡ refused n
+unfolding andThen
+loads-none {B = B} {C = C} (ok a) g k {n} e = go (g a) e
+  where
+    go : (o : Outcome B) → andThen o (λ b. ok (k a b)) ≡ refused n → o ≡ refused n
+    go (ok b) h = absurd (refused≢ok (sym h))
+    go (refused m) h = cc
+loads-none (refused m) g k e = cc
+
 module _ (t : Term) (l : Layout) (bs : List ℕ) (b at least : ℕ) where
   abbrev entry : BlockInfo
   entry = entryOf (l .option) (skipBytes l bs) b
@@ -108,6 +120,17 @@ module _ (t : Term) (l : Layout) (bs : List ℕ) (b at least : ℕ) where
     | yes past ↦ rw (docs-in-tail t b past) (tailBlock-sound _ _ _ _ _ _ (sym (load-tail t l bs f (omega arith)) ∙ e) .sound)
     | no some ↦ rw (docs-in-full t b (omega arith)) (fullBlock-sound _ _ _ _ (sym (load-full t l bs f (omega arith)) ∙ e) .0 .sound)
   ]
+
+  -- a landing that is refused: nothing is read from there on, by that question
+  pub record Stops (n : ℕ) : Type 0 where
+    pub reads : readingAt t l bs b at least ≡ nothing n
+    pub numbered : 0 < n
+
+  pub landing-none : {n : ℕ} → landing t bs l 0 b at least b b ≡ refused n → Stops n
+  unfolding loadedAt
+  landing-none {n} e =
+      let none : loadedAt t l bs b at least b ≡ refused n = loads-none _ _ _ (sym (landing-is t bs l 0 b at least b b) ∙ e) in
+      record { reads = reads-none t l bs b at least b none; numbered = rw none at (loadedAt-numbered t l bs b at least b) }
 
   module _ {h : Held} {docs freqs : List ℕ} where
     pub block-held : at ≤ length bs → landing t bs l 0 b at least b b ≡ ok (cursorOf h docs freqs) → BlockHeld h docs freqs

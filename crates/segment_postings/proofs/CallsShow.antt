@@ -54,16 +54,16 @@ cursorAfter bs t c (call ∷ cs) = cursorAfter bs t (called c bs t call .cursor)
 
 -- ---- one turn of each
 
-callsFrom-none : (bs : List ℕ) (t : Term) (c : SegmentPostings) → callsFrom bs t c [] ≡ []
+pub callsFrom-none : (bs : List ℕ) (t : Term) (c : SegmentPostings) → callsFrom bs t c [] ≡ []
 unfolding callsFrom
 callsFrom-none bs t c = refl
 
-callsFrom-more : (bs : List ℕ) (t : Term) (c : SegmentPostings) (call : Call) (cs : List Call)
+pub callsFrom-more : (bs : List ℕ) (t : Term) (c : SegmentPostings) (call : Call) (cs : List Call)
     → callsFrom bs t c (call ∷ cs) ≡ called c bs t call .answer ∷ callsFrom bs t (called c bs t call .cursor) cs
 unfolding callsFrom
 callsFrom-more bs t c call cs = refl
 
-calls-is : (bs : List ℕ) (t : Term) (cs : List Call)
+pub calls-is : (bs : List ℕ) (t : Term) (cs : List Call)
     → calls bs t cs ≡ opened bs t .answer ∷ callsFrom bs t (opened bs t .cursor) cs
 unfolding calls
 calls-is bs t cs = refl
@@ -77,7 +77,7 @@ called-seek : (c : SegmentPostings) (bs : List ℕ) (t : Term) (target : ℕ)
 unfolding called sought
 called-seek c bs t target = refl
 
-moved-refused : (t : Term) (before : SegmentPostings) (n : ℕ)
+pub moved-refused : (t : Term) (before : SegmentPostings) (n : ℕ)
     → moved t before (refused n) ≡ record { answer = Refused n; cursor = before }
 unfolding moved
 moved-refused t before n = refl

@@ -206,7 +206,7 @@ module _ {t : Term} {bs : List ℕ} (s : Sound t bs) where
 -- ---- the answer
 
 -- an element that is there is no default
-getD-there : (l : List ℕ) (i z y : ℕ) → i < length l → getD l i z ≡ getD l i y
+pub getD-there : (l : List ℕ) (i z y : ℕ) → i < length l → getD l i z ≡ getD l i y
 getD-there [] i z y h = absurd (not-suc-le-zero h)
 getD-there (x ∷ l) zero z y h = refl
 getD-there (x ∷ l) (suc i) z y h = getD-there l i z y (le-of-suc-le-suc h)

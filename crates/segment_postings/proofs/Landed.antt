@@ -6,7 +6,7 @@
 use mathlib.Core.Bool.{true}
 use mathlib.Core.List.{List}
 use mathlib.Core.Path.{_≡_, sym, subst, _∙_}
-use Prim.Native.Nat.{ℕ, zero, suc, _+_, _-_, _*_, max, _≤_, _<_}
+use Prim.Native.Nat.{ℕ, zero, suc, _+_, _-_, _*_, _≤_, _<_}
 use native.Mathlib.Omega.{arith}
 use borrow.Author.Tests.{leb-true, ltb-true}
 use lib.Dec.{leb}
@@ -62,13 +62,12 @@ pub record Placed (t : Term) (target : ℕ) (d : SegmentPostings) : Type 0 where
   pub place-counts : placeOf d target ≡ countBelow target (d .docs)
   pub place-below : placeOf d target < 128
   pub place-reaches : target ≤ getD (d .docs) (placeOf d target) 0
-  -- a block behind the tail has no position
-  pub position-most : d .block ≤ fullBlocks t → 128 * d .block + placeOf d target ≤ t .count
+  pub position-most : 128 * d .block + placeOf d target ≤ t .count
 
 module _ (t : Term) (bs : List ℕ) (l : Layout) (target : ℕ) (small : target ≤ TERMINATED) where
   holding-placed : (f : Found) (unpacked : ℕ) (b : Block) (least : ℕ) → rising least (b .docs) ≡ true → length (b .docs) ≤ 128
       → target ≤ getD (padded TERMINATED (b .docs)) 127 0
-      → (f .block ≤ fullBlocks t → 128 * f .block + length (b .docs) ≤ t .count) → Placed t target (holding f unpacked b)
+      → 128 * f .block + length (b .docs) ≤ t .count → Placed t target (holding f unpacked b)
   unfolding holding placeOf padded
   holding-placed f unpacked b least rises few reaches inside =
       let place = padded-search least (b .docs) rises few target small reaches in
@@ -79,13 +78,13 @@ module _ (t : Term) (bs : List ℕ) (l : Layout) (target : ℕ) (small : target 
         place-counts = place .counts ∙ sym (count-filled target (b .docs) (128 - length (b .docs)) TERMINATED small);
         place-below = place .below;
         place-reaches = place .reaches;
-        position-most = λ h. omega (arith, inside h, place .counts, count-le target (b .docs));
+        position-most = omega (arith, place .counts, count-le target (b .docs));
       }
 
-  load-placed : (f : Found) (unpacked : ℕ) {b : Block} → (f .block < fullBlocks t → target ≤ f .info .«last_doc»)
+  load-placed : (f : Found) (unpacked : ℕ) {b : Block} → f .block ≤ fullBlocks t → (f .block < fullBlocks t → target ≤ f .info .«last_doc»)
       → loadBlock t l bs f ≡ ok b → Placed t target (holding f unpacked b)
   unfolding fullBlocks tailLength
-  load-placed f unpacked {b} reached e =
+  load-placed f unpacked {b} most reached e =
       choose-elim (λ o. o ≡ ok b → Placed t target (holding f unpacked b)) _ _ _
       (λ below k.
       let read = fullBlock-sound _ _ _ _ k in
@@ -93,36 +92,25 @@ module _ (t : Term) (bs : List ℕ) (l : Layout) (target : ℕ) (small : target 
       let full : f .block < fullBlocks t = ltb-true _ _ below in
       holding-placed f unpacked b (f .least) (sound .docs-rise) (omega (arith, sound .docs-many))
       (rw (full-last (b .docs) (sound .docs-many), read .0 .ends, read .1) (reached full))
-      (λ _. omega (arith, sound .docs-many)))
+      (omega (arith, sound .docs-many)))
       (λ _ k.
       let sound = tailBlock-sound _ _ _ _ _ _ k .sound in
       let short : length (b .docs) < 128 = omega (arith, sound .docs-many) in
       holding-placed f unpacked b (f .least) (sound .docs-rise) (omega arith)
       (rw (tail-last (b .docs) short) small)
-      (λ h. omega (arith, sound .docs-many)))
+      (omega (arith, sound .docs-many)))
       (sym (loadBlock-is t l bs f) ∙ e)
 
-  pub landing-placed : (b at least entries unpacked : ℕ) {d : SegmentPostings} → landing t bs l target b at least entries unpacked ≡ ok d
-      → Placed t target d
-  landing-placed b at least entries unpacked e =
+  pub landing-placed : (b at least entries unpacked : ℕ) {d : SegmentPostings} → b ≤ fullBlocks t
+      → landing t bs l target b at least entries unpacked ≡ ok d → Placed t target d
+  landing-placed b at least entries unpacked h e =
       let found = andThen-ok _ _ (sym (landing-is t bs l target b at least entries unpacked) ∙ e) in
       let block = andThen-ok _ _ (found .2) in
       let k = chosen _ _ _ _ _ _ _ _ _ (found .1) in
-      subst (Placed t target) (ok-same (block .2)) (load-placed (found .0) unpacked (λ h. k .reaches (omega arith)) (block .1))
+      subst (Placed t target) (ok-same (block .2))
+      (load-placed (found .0) unpacked (omega (arith, k .block-most)) (λ m. k .reaches (omega arith)) (block .1))
 
--- at most the tail, unless the search began behind it
-pub landing-block : (t : Term) (bs : List ℕ) (l : Layout) (target b at least entries unpacked : ℕ) {d : SegmentPostings}
-    → landing t bs l target b at least entries unpacked ≡ ok d → d .block ≤ max b (fullBlocks t)
-unfolding holding
-landing-block t bs l target b at least entries unpacked e =
-    let found = andThen-ok _ _ (sym (landing-is t bs l target b at least entries unpacked) ∙ e) in
-    let block = andThen-ok _ _ (found .2) in
-    let k = chosen _ _ _ _ _ _ _ _ _ (found .1) in
-    subst (λ (d : SegmentPostings). d .block ≤ max b (fullBlocks t)) (ok-same (block .2)) (omega (arith, k .block-most))
-
-module _ (c : SegmentPostings) (bs : List ℕ) (t : Term) (target : ℕ) {d : SegmentPostings} (e : leaving c bs t target ≡ ok d) where
-  pub leaving-placed : target ≤ TERMINATED → Placed t target d
-  leaving-placed small = landing-placed t bs _ target small _ _ _ _ _ (andThen-ok _ _ (sym (leaving-is c bs t target) ∙ e) .2)
-
-  pub leaving-block : d .block ≤ max (c .block + 1) (fullBlocks t)
-  leaving-block = landing-block t bs _ target _ _ _ _ _ (andThen-ok _ _ (sym (leaving-is c bs t target) ∙ e) .2)
+pub leaving-placed : (c : SegmentPostings) (bs : List ℕ) (t : Term) (target : ℕ) {d : SegmentPostings} → target ≤ TERMINATED
+    → c .block < fullBlocks t → leaving c bs t target ≡ ok d → Placed t target d
+leaving-placed c bs t target small full e =
+    landing-placed t bs _ target small _ _ _ _ _ (omega arith) (andThen-ok _ _ (sym (leaving-is c bs t target) ∙ e) .2)

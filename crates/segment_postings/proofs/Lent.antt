@@ -3,9 +3,11 @@
 use mathlib.Core.Path.{_≡_, refl, sym, ap, subst, _∙_}
 use mathlib.Core.List.{List}
 use mathlib.Core.Bool.{true, false}
-use Prim.Native.Nat.{ℕ, _+_, _-_, _*_, _≤_, _<_}
+use mathlib.Core.Logic.{⊎-elim}
+use Prim.Native.Nat.{ℕ, _+_, _-_, _*_, _/_, _≤_, _<_}
+use native.Mathlib.Nat.{eq-or-lt-of-le}
 use native.Mathlib.Omega.{arith}
-use borrow.Author.Tests.{ltb-true, lt-ltb, le-ltb}
+use borrow.Author.Tests.{lt-ltb, le-ltb, eqb-false}
 use lib.Dec.{eqb}
 use Rattle.format.specs.declared.Layout.{Layout}
 use Rattle.format.specs.declared.Term.{Term}
@@ -14,15 +16,13 @@ use Rattle.format.specs.Refusal.{stateBroken}
 use Rattle.format.specs.SkipEntry.{blockSize}
 use Rattle.format.specs.Layout.{layout, fullBlocks, skipBytes}
 use Rattle.format.specs.Reading.{Block}
-use Rattle.format.proofs.Choice.{choose-elim}
-use Rattle.format.proofs.Outcome.{ok-same, ask-ok, andThen-ok}
+use Rattle.format.proofs.Outcome.{ok-same, andThen-ok}
 use Rattle.segment_postings.specs.declared.Found.{Found}
 use Rattle.segment_postings.specs.declared.Held.{Held}
 use Rattle.segment_postings.specs.declared.SegmentPostings.{SegmentPostings}
 use Rattle.segment_postings.specs.declared.Laid.the-variants as laid-as
 use Rattle.segment_postings.specs.declared.Loaded.{Loaded}
 use Rattle.segment_postings.specs.declared.Loaded.the-variants as loaded-as
-use Rattle.segment_postings.specs.declared.Search.{Search}
 use Rattle.segment_postings.specs.declared.Search.the-variants as search-as
 use Rattle.segment_postings.specs.declared.Answer.the-variants as answer-as
 use Rattle.segment_postings.specs.declared.Reached.{Reached}
@@ -31,7 +31,7 @@ use Rattle.segment_postings.specs.Cursor.{findBlock, loadBlock, holding,
 use Rattle.segment_postings.specs.Calls.{laid, searched, counted, orBefore, cursorOf, heldOf, reached, loaded, FindsFrom, BlockLoaded, Reaches}
 use Rattle.segment_postings.proofs.Bounds.{Bounded, bounded}
 use Rattle.segment_postings.proofs.Parts.{laid-out}
-use Rattle.segment_postings.proofs.Turns.{landing-is, opening-is, leaving-is, stepping-is}
+use Rattle.segment_postings.proofs.Turns.{landing-is, opening-is}
 
 -- ---- what an answer tells of its outcome
 
@@ -150,9 +150,10 @@ module _ (c : SegmentPostings) (bs : List ℕ) (t : Term) where
   unfolding leaving andThen
   leaving-refused target e = rw e
 
-  pub leaves-from : {l : Layout} → Bounded t bs c → layout t bs ≡ ok l → FindsFrom t l bs (c .block + 1) (c .next) (c .entries)
+  pub leaves-from : {l : Layout} → Bounded t bs c → c .block < t .count / 128 → layout t bs ≡ ok l
+      → FindsFrom t l bs (c .block + 1) (c .next) (c .entries)
   unfolding fullBlocks
-  leaves-from b e = record { laid-out = e; block-most = omega arith; inside = b .next-inside; entries-most = b .entries-behind }
+  leaves-from b full e = record { laid-out = e; block-most = omega arith; inside = b .next-inside; entries-most = b .entries-behind }
 
   -- ---- a step
 
@@ -169,6 +170,12 @@ module _ (c : SegmentPostings) (bs : List ℕ) (t : Term) where
       pub stepping-within : c .place + 1 < 128 → stepping c bs t ≡ ok (atPlace c (c .place + 1))
       unfolding stepping ask choose position
       stepping-within h = rw (in-bounds, before, lt-ltb _ _ h)
+
+      -- the tail's last place is the end, so that only a full block is left
+      pub leaves-full : 128 ≤ c .place + 1 → c .block < t .count / 128
+      leaves-full h =
+          let b = bounded t bs c in-bounds in
+          ⊎-elim (λ e. absurd (eqb-false _ _ before e)) (λ l. omega (arith, b .place-below)) (eq-or-lt-of-le (b .position-most))
 
       pub stepping-leaves : 128 ≤ c .place + 1 → stepping c bs t ≡ leaving c bs t 0
       unfolding stepping ask choose position
@@ -223,19 +230,3 @@ landing-first t bs l target b at least entries unpacked e =
 
 pub opening-first : (bs : List ℕ) (t : Term) {c : SegmentPostings} → opening bs t ≡ ok c → c .place ≡ 0
 opening-first bs t e = landing-first _ _ _ _ _ _ _ _ _ (andThen-ok _ _ (sym (opening-is bs t) ∙ e) .2)
-
-leaving-first : (c : SegmentPostings) (bs : List ℕ) (t : Term) (target : ℕ) {d : SegmentPostings} → leaving c bs t target ≡ ok d → d .place ≡ 0
-leaving-first c bs t target e = landing-first _ _ _ _ _ _ _ _ _ (andThen-ok _ _ (sym (leaving-is c bs t target) ∙ e) .2)
-
--- a step's place is one of a block's
-pub stepping-place : (c : SegmentPostings) (bs : List ℕ) (t : Term) {d : SegmentPostings} → stepping c bs t ≡ ok d → d .place < 128
-unfolding atPlace
-stepping-place c bs t {d} e =
-    let asked = ask-ok _ _ _ (sym (stepping-is c bs t) ∙ e) in
-    let placed : Outcome SegmentPostings → Type 0 = λ o. o ≡ ok d → d .place < 128 in
-    choose-elim placed _ _ _
-    (λ _ k. subst (λ (x : SegmentPostings). x .place < 128) (ok-same k) (bounded t bs c (asked .0) .place-below))
-    (λ _. choose-elim placed _ _ _
-    (λ below k. subst (λ (x : SegmentPostings). x .place < 128) (ok-same k) (ltb-true _ _ below))
-    (λ _ k. omega (arith, leaving-first c bs t 0 k)))
-    (asked .1)

@@ -1,3 +1,4 @@
+pub mod AdmissionExact
 pub mod Agrees
 pub mod BlockHeld
 pub mod Bounds
@@ -7,10 +8,12 @@ pub mod Holds
 pub mod Landed
 pub mod Landing
 pub mod Lent
+pub mod Near
 pub mod Padded
 pub mod Parts
 pub mod Places
 pub mod Questions
+pub mod RankCounts
 pub mod Searched
 pub mod SeekAgrees
 pub mod SeekMoves
@@ -21,3 +24,5 @@ pub mod TotalWalk
 pub mod Turns
 pub mod Walk
 pub mod WalkShows
+pub mod WalkStands
+pub mod WalkSteps

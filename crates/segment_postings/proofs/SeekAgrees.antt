@@ -23,11 +23,11 @@ use Rattle.format.proofs.Blocks.{docs-rising}
 use Rattle.format.proofs.Sound.{Sound, sound-blocks}
 use Rattle.format.proofs.Visited.{seek-goes}
 use Rattle.segment_postings.specs.declared.SegmentPostings.{SegmentPostings}
-use Rattle.segment_postings.specs.Cursor.{position, atPlace, leaving, placeOf, within, seeking}
-use Rattle.segment_postings.proofs.Turns.{seeking-is}
+use Rattle.segment_postings.specs.Cursor.{position, atPlace, placeOf, within, behind, seeking}
+use Rattle.segment_postings.proofs.Turns.{behind-is, seeking-is}
 use Rattle.segment_postings.proofs.Holds.{Holds, MovesTo, holds-inBounds}
 use Rattle.segment_postings.proofs.Searched.{place-below, place-reaches, place-inside}
-use Rattle.segment_postings.proofs.SeekMoves.{seek-stays, seek-onward, earlier, within-onward, within-moves, leaving-moves}
+use Rattle.segment_postings.proofs.SeekMoves.{seek-stays, seek-onward, earlier, within-onward, within-moves, left-full, leaving-moves}
 use Rattle.segment_postings.proofs.Agrees.{Agrees, docs-count, moves-agree}
 
 module _ {t : Term} {bs : List ℕ} (s : Sound t bs) where
@@ -68,22 +68,20 @@ module _ {t : Term} {bs : List ℕ} (s : Sound t bs) where
     -- where the present document lies below the target
     onward : (inside : position c < t .count) (ahead : getD (c .docs) (c .place) 0 < target)
         → (c′ : SegmentPostings) × MovesTo s (countBelow target docs) c c′
-        × ((choose (leb target (c .«last_doc»)) (λ _. within c t target) λ _.
-        andThen (leaving c bs t target) λ landed. ok (atPlace landed (placeOf landed target))) ≡ ok c′)
-    unfolding choose andThen placeOf
+        × (choose (leb target (c .«last_doc»)) (λ _. within c t target) (λ _. behind c bs t target) ≡ ok c′)
+    unfolding choose ask andThen placeOf
     onward inside ahead = elim (decLe target (c .«last_doc»)) [
       | yes held ↦ (_, within-moves s k target inside ahead held, rw (le-leb target _ held, within-ok inside ahead held))
       | no left ↦
           let below : c .«last_doc» < target = omega arith in
           let p = leaving-moves s k target below most in
-          (_, p .2, rw (lt-leb target _ below, p .1))
+          (_, p .2, rw (lt-leb target _ below, behind-is, lt-ltb _ _ (left-full s k target below most), p .1))
     ]
 
     seeking-on : position c < t .count
         → seeking c bs t target
         ≡ (choose (leb target (getD (c .docs) (c .place) 0)) (λ _. ok c) λ _.
-        choose (leb target (c .«last_doc»)) (λ _. within c t target) λ _.
-        andThen (leaving c bs t target) λ landed. ok (atPlace landed (placeOf landed target)))
+        choose (leb target (c .«last_doc»)) (λ _. within c t target) (λ _. behind c bs t target))
     unfolding ask choose
     seeking-on h =
         rw (seeking-is, holds-inBounds s k, ne-eqb (position c) (t .count) (λ e. omega arith), le-leb target TERMINATED most)

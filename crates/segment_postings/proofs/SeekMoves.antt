@@ -72,7 +72,7 @@ module _ {t : Term} {bs : List ℕ} (s : Sound t bs) where
 
   -- .. else to the block that the entries lead to
   module _ {c : SegmentPostings} (k : Holds s c) (target : ℕ) (left : c .«last_doc» < target) (most : target ≤ TERMINATED) where
-    left-full : c .block < fullBlocks t
+    pub left-full : c .block < fullBlocks t
     left-full = ⊎-elim
         (λ e. absurd (omega (arith, k .last-is ∙ ap (λ b. blockAt blocks b .last) e ∙ tail-sound (sound-blocks s) .ends)))
         (λ l. l)

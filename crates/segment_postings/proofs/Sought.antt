@@ -1,49 +1,35 @@
--- A seek, one law for each way through its tests; and the numbers of the cursor where it comes to, which stay small: it stays, goes to
--- a place in the held block that was tested, or lands on another block, in which the search answers a place (Landed.antt).
+-- A seek, and the rank that a fresh cursor's seek finds: one law for each way through the tests.
 -- Assumes nothing.
 use mathlib.Core.Bool.{Bool, true, false, _&&_ as and, and-eq-true-iff}
 use mathlib.Core.List.{List}
-use mathlib.Core.Path.{_≡_, refl, sym, ap, subst, _∙_}
-use Prim.Native.Nat.{ℕ, _+_, _*_, _≤_, _<_}
-use native.Mathlib.Omega.{arith}
-use borrow.Author.Tests.{leb-true, ltb-true, le-leb, lt-leb, lt-ltb}
+use mathlib.Core.Path.{_≡_, refl, sym, ap}
+use Prim.Native.Nat.{ℕ, _+_, _*_, _/_, _≤_, _<_}
+use borrow.Author.Tests.{leb-true, ltb-true, le-leb, lt-leb, lt-ltb, le-ltb}
 use lib.Dec.{eqb, leb, ltb}
 use lib.ListN.{getD}
 use Rattle.format.specs.declared.Term.{Term}
 use Rattle.format.specs.Basics.{Outcome, ok, refused, andThen, ask, choose, TERMINATED}
 use Rattle.format.specs.Refusal.{targetTooLarge, stateBroken}
 use Rattle.format.specs.Layout.{fullBlocks}
-use Rattle.format.proofs.Choice.{choose-elim}
-use Rattle.format.proofs.Outcome.{ok-same, ask-ok, andThen-ok}
 use Rattle.block_search.specs.Search.{searchBlock}
 use Rattle.segment_postings.specs.declared.Held.{Held}
 use Rattle.segment_postings.specs.declared.Reached.{Reached}
 use Rattle.segment_postings.specs.declared.Reached.the-variants as reached-as
 use Rattle.segment_postings.specs.declared.SegmentPostings.{SegmentPostings}
-use Rattle.segment_postings.specs.Cursor.{inBounds, position, opening, atPlace, leaving, placeOf, within, seeking, ranking}
+use Rattle.segment_postings.specs.Cursor.{inBounds, position, opening, atPlace, leaving, placeOf, within, behind, seeking, ranking}
 use Rattle.segment_postings.specs.Calls.{orBefore, cursorOf, heldOf, reached, Reaches}
-use Rattle.segment_postings.proofs.Bounds.{bounded}
-use Rattle.segment_postings.proofs.Landed.{leaving-placed, leaving-block}
-use Rattle.segment_postings.proofs.Lent.{reaches-as, reached-at}
-use Rattle.segment_postings.proofs.Turns.{seeking-is}
+use Rattle.segment_postings.proofs.Lent.{reaches-as, reached-at, reached-nowhere}
+use Rattle.segment_postings.proofs.Turns.{behind-is, seeking-is}
 
 -- ---- what follows a call on lent arrays
 
 module _ {o : Outcome SegmentPostings} {docs freqs docs′ freqs′ : List ℕ} {r : Reached} (k : Reaches o docs freqs docs′ freqs′ r) where
-  pub reached-nowhere : {n : ℕ} → r ≡ reached-as.Refused n → o ≡ refused n
-  unfolding reached
-  reached-nowhere {n} e = go o (sym (k .answer) ∙ e)
-    where
-      go : (o : Outcome SegmentPostings) → reached o ≡ reached-as.Refused n → o ≡ refused n
-      go (ok c) a = absurd (let z : _≡_ {A = ℕ} 0 1 = cc in omega arith)
-      go (refused m) a = cc
-
   -- nothing, where it was refused
   pub then-nowhere : (f : SegmentPostings → Outcome SegmentPostings) {n : ℕ} → r ≡ reached-as.Refused n
       → Reaches (andThen o f) docs freqs docs′ freqs′ (reached-as.Refused n)
   unfolding andThen reached orBefore
   then-nowhere f e =
-      let none = reached-nowhere e in
+      let none = reached-nowhere k e in
       record { answer = rw none; docs-after = rw none (rw none at (k .docs-after)); freqs-after = rw none (rw none at (k .freqs-after)) }
 
   -- the target's place in the block that it came to
@@ -66,14 +52,14 @@ pub record MayHold (t : Term) (c : SegmentPostings) (target p : ℕ) : Type 0 wh
   pub counted : 128 * c .block + p ≤ t .count
 
 module _ (c : SegmentPostings) (t : Term) (target : ℕ) where
-  abbrev tests : ℕ → Bool
+  abbrev pub tests : ℕ → Bool
   tests p =
       and (ltb (c .place) p)
       (and (ltb p 128)
       (and (leb target (getD (c .docs) p 0))
       (leb (128 * c .block + p) (t .count))))
 
-  tested : {p : ℕ} → tests p ≡ true → MayHold t c target p
+  pub tested : {p : ℕ} → tests p ≡ true → MayHold t c target p
   tested e =
       let ahead = and-eq-true-iff _ _ .0 e in
       let inside = and-eq-true-iff _ _ .0 (ahead .1) in
@@ -85,7 +71,7 @@ module _ (c : SegmentPostings) (t : Term) (target : ℕ) where
         counted = leb-true _ _ (reaches .1);
       }
 
-  within-is : within c t target ≡ ask (tests (placeOf c target)) stateBroken λ _. ok (atPlace c (placeOf c target))
+  pub within-is : within c t target ≡ ask (tests (placeOf c target)) stateBroken λ _. ok (atPlace c (placeOf c target))
   unfolding within
   within-is = refl
 
@@ -102,6 +88,18 @@ module _ (c : SegmentPostings) (t : Term) (target : ℕ) where
         go : (r : Bool) → tests p ≡ r → ask r stateBroken (λ _. ok (atPlace c p)) ≡ refused stateBroken
         go true e = absurd (never (tested e))
         go false e = refl
+
+-- ---- behind it
+
+module _ (c : SegmentPostings) (bs : List ℕ) (t : Term) (target : ℕ) where
+  pub behind-tail : t .count / 128 ≤ c .block → behind c bs t target ≡ refused stateBroken
+  unfolding ask fullBlocks
+  behind-tail h = rw (behind-is, le-ltb _ _ h)
+
+  pub behind-full : c .block < t .count / 128
+      → behind c bs t target ≡ andThen (leaving c bs t target) λ landed. ok (atPlace landed (placeOf landed target))
+  unfolding ask fullBlocks
+  behind-full h = rw (behind-is, lt-ltb _ _ h)
 
 -- ---- a seek
 
@@ -130,45 +128,9 @@ module _ (c : SegmentPostings) (bs : List ℕ) (t : Term) (target : ℕ) where
           unfolding ask choose position
           seeking-within h = rw (seeking-is, in-bounds, before, le-leb _ _ small, lt-leb _ _ ahead, le-leb _ _ h)
 
-          pub seeking-behind : c .«last_doc» < target
-              → seeking c bs t target ≡ andThen (leaving c bs t target) λ landed. ok (atPlace landed (placeOf landed target))
+          pub seeking-behind : c .«last_doc» < target → seeking c bs t target ≡ behind c bs t target
           unfolding ask choose position
           seeking-behind h = rw (seeking-is, in-bounds, before, le-leb _ _ small, lt-leb _ _ ahead, lt-leb _ _ h)
-
-  -- ---- where it comes to
-
-  -- the place is one of a block's, and the block at most the one behind the tail
-  abbrev pub Near : SegmentPostings → Type 0
-  Near d = (d .place < 128) × (d .block ≤ fullBlocks t + 1)
-
-  within-near : {d : SegmentPostings} → c .block ≤ fullBlocks t → within c t target ≡ ok d → Near d
-  unfolding atPlace
-  within-near h e =
-      let asked = ask-ok _ _ _ (sym (within-is c t target) ∙ e) in
-      subst Near (ok-same (asked .1)) (tested c t target (asked .0) .inside, omega arith)
-
-  behind-near : {d : SegmentPostings} → target ≤ TERMINATED → c .block ≤ fullBlocks t
-      → (andThen (leaving c bs t target) λ landed. ok (atPlace landed (placeOf landed target))) ≡ ok d → Near d
-  unfolding atPlace
-  behind-near small h e =
-      let left = andThen-ok _ _ e in
-      subst Near (ok-same (left .2))
-      (leaving-placed c bs t target (left .1) small .place-below, omega (arith, leaving-block c bs t target (left .1)))
-
-  pub seeking-near : {d : SegmentPostings} → seeking c bs t target ≡ ok d → Near d
-  unfolding fullBlocks
-  seeking-near {d} e =
-      let asked = ask-ok _ _ _ (sym (seeking-is c bs t target) ∙ e) in
-      let in-bounds = bounded t bs c (asked .0) in
-      let goal : Outcome SegmentPostings → Type 0 = λ o. o ≡ ok d → Near d in
-      let stays : goal (ok c) = λ k. subst Near (ok-same k) (in-bounds .place-below, omega arith) in
-      choose-elim goal _ _ _ (λ _. stays)
-      (λ _ k.
-      let small = ask-ok _ _ _ k in
-      choose-elim goal _ _ _ (λ _. stays)
-      (λ _. choose-elim goal _ _ _ (λ _. within-near (in-bounds .block-most)) (λ _. behind-near (leb-true _ _ (small .0)) (in-bounds .block-most)))
-      (small .1))
-      (asked .1)
 
 -- ---- the rank
 

@@ -19,7 +19,7 @@ use Rattle.segment_postings.specs.declared.SegmentPostings.{SegmentPosti
 use Rattle.segment_postings.specs.declared.Answer.the-variants.{At}
 use Rattle.segment_postings.specs.declared.Found.{Found}
 use Rattle.segment_postings.specs.Cursor.{tailInfo, findBlock, loadBlock, holding, landing, position, inBounds, answerAt}
-use Rattle.segment_postings.specs.Cursor.{moved, blank, opening, opened, atPlace, leastAfter, leaving, stepping, advanced, placeOf, within, seeking}
+use Rattle.segment_postings.specs.Cursor.{moved, blank, opening, opened, atPlace, leastAfter, leaving, stepping, advanced, placeOf, within, behind, seeking}
 
 pub findBlock-zero : (option : IndexRecordOption) (skips bs : List ℕ) (target b at least entries : ℕ)
     → findBlock option skips bs target zero b at least entries
@@ -93,13 +93,19 @@ pub advanced-is : (c : SegmentPostings) (bs : List ℕ) (t : Term) → advanced 
 unfolding advanced
 advanced-is c bs t = refl
 
+pub behind-is : (c : SegmentPostings) (bs : List ℕ) (t : Term) (target : ℕ)
+    → behind c bs t target
+    ≡ (ask (ltb (c .block) (fullBlocks t)) stateBroken λ _.
+    andThen (leaving c bs t target) λ landed. ok (atPlace landed (placeOf landed target)))
+unfolding behind
+behind-is c bs t target = refl
+
 pub seeking-is : (c : SegmentPostings) (bs : List ℕ) (t : Term) (target : ℕ)
     → seeking c bs t target
     ≡ (ask (inBounds t bs c) stateBroken λ _.
     choose (eqb (position c) (t .count)) (λ _. ok c) λ _.
     ask (leb target TERMINATED) targetTooLarge λ _.
     choose (leb target (getD (c .docs) (c .place) 0)) (λ _. ok c) λ _.
-    choose (leb target (c .«last_doc»)) (λ _. within c t target) λ _.
-    andThen (leaving c bs t target) λ landed. ok (atPlace landed (placeOf landed target)))
+    choose (leb target (c .«last_doc»)) (λ _. within c t target) (λ _. behind c bs t target))
 unfolding seeking
 seeking-is c bs t target = refl

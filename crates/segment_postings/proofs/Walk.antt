@@ -1,12 +1,12 @@
--- The walk over an image block by block, each found by a search with target 0 from the block before, gives what the definitions read
--- of the whole image. The definitions go by what is left of the skip bytes and of the posting bytes, the search by a block's number and
--- by a place in the image: one turn of the one is one turn of the other, and the induction goes over the full blocks left.
+-- A walk over an image block by block, each found by a search with target 0 from the block before, reads what the definitions read. The
+-- definitions go by what is left of the skip bytes and of the posting bytes, the search by a block's number and by a place in the image:
+-- one turn of the one is one turn of the other.
 -- Assumes nothing.
 use mathlib.Core.Bool.{Bool, true, false, _&&_ as and}
 use mathlib.Core.List.{List}
 use mathlib.Core.Path.{_≡_, refl, sym, ap, _∙_}
-use Prim.Native.Nat.{ℕ, zero, suc, _+_, _-_, _*_, _≤_, _<_, zero-le}
-use native.Mathlib.Nat.{mul-add, mul-one, mul-zero, zero-add, sub-zero}
+use Prim.Native.Nat.{ℕ, suc, _+_, _-_, _*_, _≤_, _<_, zero-le}
+use native.Mathlib.Nat.{mul-add, mul-one, mul-zero, sub-zero}
 use native.Mathlib.Decide.{decLe}
 use native.Mathlib.Omega.{arith}
 use borrow.Author.Tests.{ltb-true, ltb-false}
@@ -21,7 +21,8 @@ use Rattle.format.specs.Refusal.{entryBroken}
 use Rattle.format.specs.SkipEntry.{hasFreq, entrySize, blockSize, entryFits}
 use Rattle.format.specs.Layout.{layout, fullBlocks, tailLength, skipBytes, postingBytes}
 use Rattle.format.specs.Reading.{Block, Reading, nothing, before, fullBlock, entryBlock, readFrom, reading}
-use Rattle.format.proofs.Outcome.{refused≢ok, ok-same}
+use Rattle.format.proofs.Outcome.{refused≢ok, ok-same, Numbered}
+use Rattle.format.proofs.SoundBlock.{entryBlock-numbered, tailBlock-numbered}
 use Rattle.format.proofs.Opened.{entryBlock-is, readFrom-zero, readFrom-suc, readAll-ok, reading-is}
 use Rattle.segment_postings.specs.declared.Found.{Found}
 use Rattle.segment_postings.specs.declared.load.Taken.{Taken}
@@ -91,13 +92,27 @@ module _ (t : Term) (l : Layout) (bs : List ℕ) where
 
     -- ---- the first question that is answered no
 
+    pub reads-none : {n : ℕ} → loadedAt b at least entries ≡ refused n → readingAt b at least ≡ nothing n
+    unfolding before
+    reads-none h = elim (decLe (fullBlocks t) b) [
+      | yes past ↦ rw (readingAt-tail past, h)
+      | no some ↦ rw (readingAt-entry (omega arith), h)
+    ]
+
     pub reading-stops : {n : ℕ} → loadedAt b at least entries ≡ refused n → readingAt b at least .refusal ≡ n
-    unfolding before nothing
-    reading-stops {n} h = go (decLe (fullBlocks t) b)
-      where
-        go : Dec (fullBlocks t ≤ b) → readingAt b at least .refusal ≡ n
-        go (yes past) = rw (readingAt-tail past, h)
-        go (no some) = rw (readingAt-entry (omega arith), h)
+    unfolding nothing
+    reading-stops h = ap (λ (r : Reading). r .refusal) (reads-none h)
+
+    -- its number is a question's
+    pub loadedAt-numbered : Numbered (loadedAt b at least entries)
+    unfolding loadedAt andThen
+    loadedAt-numbered = elim (decLe (fullBlocks t) b) [
+      | yes past ↦
+          let f : Found = record { block = b; at = at; least = least; info = tailInfo; entries = entries } in
+          rw (find-end (l .option) (skipBytes l bs) bs 0 (fullBlocks t) b at least entries tailInfo past refl, load-tail t l bs f past)
+          (tailBlock-numbered _ _ _ _ _ _)
+      | no some ↦ rw (← entry-same (omega arith)) (entryBlock-numbered _ _ _ _ _)
+    ]
 
     reading-goes-on : {block : Block} → b < fullBlocks t → loadedAt b at least entries ≡ ok block
         → readingAt b at least .refusal ≡ readingAt (b + 1) (at + blockSize e) (e .«last_doc» + 1) .refusal
@@ -173,28 +188,8 @@ module _ (t : Term) (l : Layout) (bs : List ℕ) where
                 let past : fullBlocks t ≤ b = omega (arith, found-same, ltb-false (f .block) (fullBlocks t) (sym (taken .is-full) ∙ tail)) in
                 reading-ends past right
 
-  -- ---- the whole walk
+  -- ---- the whole, once the image is laid out
 
-  -- n full blocks and the tail, from block b on
-  unfoldable pub walk : ℕ → ℕ → ℕ → ℕ → ℕ → Reading
-  walk zero b at least entries = before (loadedAt b at least entries) λ _. nothing 0
-  walk (suc n) b at least entries =
-      before (loadedAt b at least entries) λ _.
-      let e : BlockInfo = entryOf (l .option) (skipBytes l bs) b in
-      walk n (b + 1) (at + blockSize e) (e .«last_doc» + 1) (entries + 1)
-
-  pub walk-reads : (n b at least entries : ℕ) → b + n ≡ fullBlocks t → walk n b at least entries ≡ readingAt b at least
-  unfolding walk
-  walk-reads zero b at least entries h = sym (readingAt-tail b at least entries (omega arith))
-  walk-reads (suc n) b at least entries h =
-      let e : BlockInfo = entryOf (l .option) (skipBytes l bs) b in
-      rw (walk-reads n (b + 1) (at + blockSize e) (e .«last_doc» + 1) (entries + 1) (omega arith))
-      (sym (readingAt-entry b at least entries (omega arith)))
-
-  -- .. from the beginning, once the image is laid out
   pub reading-whole : layout t bs ≡ ok l → reading t bs ≡ readingAt 0 (l .postings) 0
   unfolding readingAt postingBytes
   reading-whole h = rw (reading-is, h, readAll-ok, mul-zero, sub-zero)
-
-  pub walk-whole : layout t bs ≡ ok l → walk (fullBlocks t) 0 (l .postings) 0 0 ≡ reading t bs
-  walk-whole h = walk-reads (fullBlocks t) 0 (l .postings) 0 0 (zero-add _) ∙ sym (reading-whole h)

@@ -1,9 +1,8 @@
 -- The outcomes of `Cursor.antt` as the contracts of the functions below the calls cite them.
 -- Assumes nothing.
 use mathlib.Core.Path.{_≡_}
-use mathlib.Core.Bool.{Bool, true, false}
 use mathlib.Core.List.{List, []}
-use Prim.Native.Nat.{ℕ, _+_, _-_, _/_, _≤_, _<_}
+use Prim.Native.Nat.{ℕ, _+_, _-_, _/_, _≤_}
 use lib.ListN.{length, take, drop}
 use lib.Dec.{eqb, leb}
 use Rattle.format.specs.declared.Layout.{Layout}
@@ -85,10 +84,10 @@ orBefore f (refused n) before = before
 -- ---- what the functions below the calls want and leave
 
 -- what a search starts from: the image's own layout, so that the entry of every full block lies within the skip bytes; a block, at
--- most the one behind the tail; where its bytes begin; and entries read, at most one for each block before it, so that no count wraps
+-- most the tail; where its bytes begin; and entries read, at most one for each block before it, so that no count wraps
 pub record FindsFrom (t : Term) (l : Layout) (bs : List ℕ) (block at entries : ℕ) : Type 0 where
   pub laid-out : layout t bs ≡ ok l
-  pub block-most : block ≤ fullBlocks t + 1
+  pub block-most : block ≤ fullBlocks t
   pub inside : at ≤ length bs
   pub entries-most : entries ≤ block
 

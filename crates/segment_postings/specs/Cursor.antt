@@ -1,8 +1,8 @@
 -- What the cursor's calls answer and leave, on every input.
 -- Assumes nothing.
-use mathlib.Core.Bool.{Bool, true, false, _&&_ as and}
-use mathlib.Core.List.{List, [], _∷_, _++_}
-use Prim.Native.Nat.{ℕ, zero, suc, _+_, _-_, _*_, _/_, min}
+use mathlib.Core.Bool.{Bool, false, _&&_ as and}
+use mathlib.Core.List.{List, _++_}
+use Prim.Native.Nat.{ℕ, zero, suc, _+_, _-_, _*_, min}
 use lib.ListN.{length, drop, getD, replicate}
 use lib.Dec.{eqb, leb, ltb}
 use Rattle.format.specs.declared.BlockInfo.{BlockInfo}
@@ -12,7 +12,7 @@ use Rattle.format.specs.declared.Term.{Term}
 use Rattle.format.specs.Basics.{Outcome, ok, refused, andThen, ask, choose, TERMINATED}
 use Rattle.format.specs.Refusal.{entryBroken, targetTooLarge, stateBroken}
 use Rattle.format.specs.SkipEntry.{hasFreq, entrySize, readEntry, blockSize, entryFits}
-use Rattle.format.specs.Layout.{layout, fullBlocks, tailLength, skipBytes, postingBytes}
+use Rattle.format.specs.Layout.{layout, fullBlocks, tailLength, skipBytes}
 use Rattle.format.specs.Reading.{Block, fullBlock, tailBlock}
 use Rattle.block_search.specs.Search.{searchBlock}
 use Rattle.segment_postings.specs.declared.SegmentPostings.{SegmentPostings}
@@ -201,17 +201,24 @@ within c t target =
     stateBroken
     λ _. ok (atPlace c p)
 
+-- behind the held block: the block that the entries lead to. Held values that fit no image may give the tail, behind which there is no
+-- block, a last id below the target: 16
+unfoldable pub behind : SegmentPostings → List ℕ → Term → ℕ → Outcome SegmentPostings
+unfolding ask andThen fullBlocks leaving atPlace placeOf
+behind c bs t target =
+    ask (ltb (c .block) (fullBlocks t)) stateBroken λ _.
+    andThen (leaving c bs t target) λ landed. ok (atPlace landed (placeOf landed target))
+
 -- a seek: 16; at the end nothing, whatever the target; 10; a target not behind the present document stays; then the held block, if its
--- last id is at least the target, else the block that the entries lead to
+-- last id is at least the target, else the blocks behind it
 unfoldable pub seeking : SegmentPostings → List ℕ → Term → ℕ → Outcome SegmentPostings
-unfolding ask choose andThen inBounds position within leaving atPlace placeOf
+unfolding ask choose inBounds position within behind
 seeking c bs t target =
     ask (inBounds t bs c) stateBroken λ _.
     choose (eqb (position c) (t .count)) (λ _. ok c) λ _.
     ask (leb target TERMINATED) targetTooLarge λ _.
     choose (leb target (getD (c .docs) (c .place) 0)) (λ _. ok c) λ _.
-    choose (leb target (c .«last_doc»)) (λ _. within c t target) λ _.
-    andThen (leaving c bs t target) λ landed. ok (atPlace landed (placeOf landed target))
+    choose (leb target (c .«last_doc»)) (λ _. within c t target) (λ _. behind c bs t target)
 
 unfoldable pub sought : SegmentPostings → List ℕ → Term → ℕ → Moved
 unfolding moved seeking

@@ -20,7 +20,7 @@ use skip::block_size;
 ghost use mathlib.Core.Bool.{true};
 ghost use mathlib.Core.Path.{_≡_};
 ghost use mathlib.Core.List.{List};
-ghost use Prim.Native.Nat.{ℕ, _+_, _*_, _<_, _^_};
+ghost use Prim.Native.Nat.{ℕ, _+_, _*_, _/_, _<_, _^_};
 ghost use lib.Dec.{eqb};
 ghost use lib.ListN.{length};
 ghost use Rattle.segment_postings.specs.Cursor.{inBounds, answerAt, landing, opening, leastAfter, leaving, stepping};
@@ -172,7 +172,7 @@ fn least_after(last_doc: u32) -> u32
     }
 }
 
-// Goes to another block: questions 1 to 4 are asked again of the image that is passed, then 5 to 9.
+// Goes to another block, from a full one: questions 1 to 4 are asked again of the image that is passed, then 5 to 9.
 pub(crate) fn leave(
     held: Held,
     image: &[u8],
@@ -181,7 +181,7 @@ pub(crate) fn leave(
     docs: &mut [u32; 128],
     freqs: &mut [u32; 128],
 ) -> Reached
-    requires { ⌜ inBounds term (now image) (cursorOf held (now docs) (now freqs)) ≡ true ⌝ }
+    requires { ⌜ (inBounds term (now image) (cursorOf held (now docs) (now freqs)) ≡ true) × (held .block < term .count / 128) ⌝ }
     ensures { λ r. ⌜ Reaches (leaving (cursorOf held (now (docs .entry)) (now (freqs .entry))) (now (image .entry)) term target) (now (docs .entry)) (now (freqs .entry)) (now (docs .exit)) (now (freqs .exit)) r ⌝ }
 {
     match lay_out(image, term) {

@@ -10,6 +10,7 @@ use crate::core::at_end;
 use crate::core::in_bounds;
 use crate::core::leave;
 use crate::core::open_in;
+use crate::layout::full_blocks;
 use crate::segment_postings::held_of;
 use crate::segment_postings::moved_to;
 use block_search::search_block;
@@ -22,8 +23,7 @@ ghost use mathlib.Core.Bool.{true};
 ghost use mathlib.Core.Path.{_≡_};
 ghost use mathlib.Core.List.{List};
 ghost use Prim.Native.Nat.{ℕ, _/_, _≤_, _<_};
-ghost use Rattle.format.specs.Basics.{ok, andThen};
-ghost use Rattle.segment_postings.specs.Cursor.{inBounds, atPlace, placeOf, leaving, within, seeking, sought, ranking};
+ghost use Rattle.segment_postings.specs.Cursor.{inBounds, atPlace, within, behind, seeking, sought, ranking};
 ghost use Rattle.segment_postings.specs.Calls.{cursorOf, Reaches, valued};
 
 // The place p of the held block.
@@ -61,7 +61,8 @@ fn seek_within(held: Held, term: Term, target: u32, docs: &[u32; 128]) -> Reache
     Reached::At(at_place(held, place))
 }
 
-// Seeks behind the held block: the block that the entries lead to, and the target's place in it.
+// Seeks behind the held block: the block that the entries lead to, and the target's place in it. Values that fit no image may give the
+// tail a last id below the target: 16.
 fn seek_behind(
     held: Held,
     image: &[u8],
@@ -71,8 +72,11 @@ fn seek_behind(
     freqs: &mut [u32; 128],
 ) -> Reached
     requires { ⌜ inBounds term (now image) (cursorOf held (now docs) (now freqs)) ≡ true ⌝ }
-    ensures { λ r. ⌜ Reaches (andThen (leaving (cursorOf held (now (docs .entry)) (now (freqs .entry))) (now (image .entry)) term target) λ landed. ok (atPlace landed (placeOf landed target))) (now (docs .entry)) (now (freqs .entry)) (now (docs .exit)) (now (freqs .exit)) r ⌝ }
+    ensures { λ r. ⌜ Reaches (behind (cursorOf held (now (docs .entry)) (now (freqs .entry))) (now (image .entry)) term target) (now (docs .entry)) (now (freqs .entry)) (now (docs .exit)) (now (freqs .exit)) r ⌝ }
 {
+    if full_blocks(term.count) <= held.block {
+        return Reached::Refused(STATE_BROKEN);
+    }
     match leave(held, image, term, target, docs, freqs) {
         Reached::At(landed) => Reached::At(at_place(landed, search_block(docs, target))),
         Reached::Refused(n) => Reached::Refused(n),

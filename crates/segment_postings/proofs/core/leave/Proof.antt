@@ -1,10 +1,9 @@
 -- `segment_postings::core::leave` meets its contract: another block is a landing from the next one on, once questions 1 to 4 are
 -- answered again. The cursor's numbers are in bounds, so that no sum wraps.
 -- Assumes nothing.
-use mathlib.Core.Path.{_≡_, sym, ap, _∙_}
+use mathlib.Core.Path.{sym, _∙_}
 use Prim.Native.Nat.{_+_, _^_, _<_}
 use native.Mathlib.Omega.{arith}
-use Rattle.segment_postings.specs.declared.SegmentPostings.{SegmentPostings}
 use Rattle.segment_postings.specs.Calls.{cursorOf}
 use Rattle.segment_postings.proofs.Bounds.{Bounded, bounded}
 use Rattle.segment_postings.proofs.Lent.{laid-at, laid-refused, reaches-as, none-reached, leaving-laid, leaving-refused, leaves-from}
@@ -22,7 +21,7 @@ least-after-requires : tie.Need-least-after-requires
 least-after-requires c κs = search needs
 
 in-bounds : (s : tie.Start) → Bounded (s .args .term) (s .args .image .now) (cursorOf (s .args .held) (s .args .docs .now) (s .args .freqs .now))
-in-bounds s = bounded _ _ _ (s .pre)
+in-bounds s = bounded _ _ _ (s .pre .0)
 
 few : (s : tie.Start) → s .args .held .unpacked + 1 < 2 ^ 64
 unfolding cursorOf
@@ -39,7 +38,7 @@ unfolding cursorOf
 land-requires c κs =
     let l = c .before .before .before .before .before in
     let s = l .before .before .before .before in
-    (leaves-from _ _ _ (in-bounds s) (laid-at _ (sym (l .before .before .lay-out .ensures) ∙ l .layout .given .1)), few s)
+    (leaves-from _ _ _ (in-bounds s) (s .pre .1) (laid-at _ (sym (l .before .before .lay-out .ensures) ∙ l .layout .given .1)), few s)
 
 enum-known-again : tie.Need-enum-known-again
 enum-known-again c = search needs

@@ -1,15 +1,13 @@
 -- `segment_postings::core::step_in` meets its contract: its tests are the definition's, in turn.
 -- Assumes nothing.
 use mathlib.Core.Path.{_≡_, refl, sym, _∙_}
-use mathlib.Core.Bool.{true, false}
-use Prim.Native.Nat.{_+_, _*_}
+use mathlib.Core.Bool.{true}
 use native.Mathlib.Omega.{arith}
 use borrow.Author.Tests.{not-true, not-false}
-use lib.Dec.{eqb}
 use Rattle.segment_postings.specs.Cursor.{inBounds, atPlace}
 use Rattle.segment_postings.specs.Calls.{cursorOf}
 use Rattle.segment_postings.proofs.Bounds.{bounded}
-use Rattle.segment_postings.proofs.Lent.{reaches-as, none-reached, held-reached, stepping-broken, stepping-ended, stepping-within, stepping-leaves}
+use Rattle.segment_postings.proofs.Lent.{reaches-as, none-reached, held-reached, stepping-broken, stepping-ended, stepping-within, leaves-full, stepping-leaves}
 use borrow.Author.Needs.{needs}
 use Rattle.segment_postings.proofs.core.step_in.Statement.{statement}
 use Rattle.segment_postings.proofs.core.step_in.Tie as tie
@@ -45,7 +43,12 @@ returns-3 c =
     held-reached _ _ _ (stepping-within _ _ _ (in-bounds (e .before .before)) (sym (e .before .at-end .ensures) ∙ e .if2 .left) (c .if3 .taken))
 
 leave-requires : tie.Need-leave-requires
-leave-requires c κs = in-bounds (c .before .before .before .before .before .before)
+unfolding cursorOf
+leave-requires c κs =
+    let f = c .before .before in
+    let e = f .before .before in
+    let inside = in-bounds (e .before .before) in
+    (inside, leaves-full _ _ _ inside (sym (e .before .at-end .ensures) ∙ e .if2 .left) (f .if3 .left))
 
 returns-4 : tie.Need-returns-4
 unfolding cursorOf

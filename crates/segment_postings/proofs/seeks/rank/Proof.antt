@@ -1,14 +1,14 @@
 -- `segment_postings::seeks::rank` meets its contract: a fresh cursor, the seek, and the position that it came to. That position is
--- small, as the block is at most one behind the last.
+-- at most the count.
 -- Assumes nothing.
 use mathlib.Core.Path.{sym, ap}
 use Prim.Native.Nat.{_/_, _^_, _≤_, _<_}
 use native.Mathlib.Omega.{arith}
 use borrow.Author.Needs.{needs}
-use Rattle.format.specs.Layout.{fullBlocks}
 use Rattle.segment_postings.specs.Calls.{cursorOf, valued}
-use Rattle.segment_postings.proofs.Lent.{reached-at}
-use Rattle.segment_postings.proofs.Sought.{reached-nowhere, seeking-near, ranking-too-large, ranking-unopened, ranking-unsought, ranking-found}
+use Rattle.segment_postings.proofs.Lent.{reached-at, reached-nowhere}
+use Rattle.segment_postings.proofs.Near.{seeking-near}
+use Rattle.segment_postings.proofs.Sought.{ranking-too-large, ranking-unopened, ranking-unsought, ranking-found}
 use Rattle.segment_postings.proofs.seeks.rank.Statement.{statement}
 use Rattle.segment_postings.proofs.seeks.rank.Tie as tie
 
@@ -32,7 +32,7 @@ few : (s : tie.Start) → s .args .count / 128 < 2 ^ 25
 few s = omega arith
 
 near : (c : tie.After-held) → (c .held .given .0 .0 .place < 128) × (c .held .given .0 .0 .block ≤ 2 ^ 25)
-unfolding cursorOf fullBlocks
+unfolding cursorOf
 near c =
     let s = c .before .before .before .before .before .before .before .before .before .before .before .before .before in
     let near = seeking-near _ _ _ _ (reached-at (c .before .before .seek-in .ensures) (c .held .given .1)) in

@@ -6,7 +6,7 @@ use Rattle.segment_postings.specs.declared.SegmentPostings.{SegmentPosti
 use Rattle.segment_postings.specs.Cursor.{seeking, sought}
 use Rattle.segment_postings.specs.Calls.{cursorOf}
 use Rattle.segment_postings.proofs.Lent.{reaches-as, reached-at, same-cursor, moved-at, moved-nowhere}
-use Rattle.segment_postings.proofs.Sought.{seeking-near}
+use Rattle.segment_postings.proofs.Near.{seeking-near}
 use Rattle.segment_postings.proofs.seeks.seek.Statement.{statement}
 use Rattle.segment_postings.proofs.seeks.seek.Tie as tie
 

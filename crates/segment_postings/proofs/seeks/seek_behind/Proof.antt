@@ -1,9 +1,24 @@
--- `segment_postings::seeks::seek_behind` meets its contract: the block that `leave` came to, and what the search answers in it.
+-- `segment_postings::seeks::seek_behind` meets its contract: from a full block, the block that `leave` came to, and what the search
+-- answers in it.
 -- Assumes nothing.
+use Prim.Native.Nat.{_/_, _<_}
+use native.Mathlib.Omega.{arith}
 use borrow.Author.Needs.{needs}
-use Rattle.segment_postings.proofs.Sought.{then-nowhere, then-placed}
+use Rattle.segment_postings.specs.Calls.{cursorOf}
+use Rattle.segment_postings.proofs.Lent.{none-reached, reaches-as}
+use Rattle.segment_postings.proofs.Sought.{then-nowhere, then-placed, behind-tail, behind-full}
 use Rattle.segment_postings.proofs.seeks.seek_behind.Statement.{statement}
 use Rattle.segment_postings.proofs.seeks.seek_behind.Tie as tie
+
+full-blocks-requires : tie.Need-full-blocks-requires
+full-blocks-requires c κs = search needs
+
+returns : tie.Need-returns
+unfolding cursorOf
+returns c = none-reached _ _ (behind-tail _ _ _ _ (omega arith))
+
+full : (c : tie.Else1) → let s = c .before .before .before .before in s .args .held .block < s .args .term .count / 128
+full c = omega arith
 
 leave-requires : tie.Need-leave-requires
 leave-requires c κs = search needs
@@ -20,22 +35,31 @@ at-place-requires c κs = search needs
 enum-known-n : tie.Need-enum-known-n
 enum-known-n c = search needs
 
-returns : tie.Need-returns
-returns c =
-    let h = c .before .before .before .before in
-    then-placed (h .before .before .leave .ensures) _ (h .landed .given .1) (c .before .search-block .ensures) (c .at-place .ensures _ _)
-
 returns-2 : tie.Need-returns-2
-returns-2 c = then-nowhere (c .before .before .before .leave .ensures) _ (c .before .n .given .1)
+unfolding cursorOf
+returns-2 c =
+    let h = c .before .before .before .before in
+    let k = h .before .before in
+    reaches-as (behind-full _ _ _ _ (full (k .before .before .before)))
+    (then-placed (k .leave .ensures) _ (h .landed .given .1) (c .before .search-block .ensures) (c .at-place .ensures _ _))
+
+returns-3 : tie.Need-returns-3
+unfolding cursorOf
+returns-3 c =
+    let k = c .before .before .before in
+    reaches-as (behind-full _ _ _ _ (full (k .before .before .before)))
+    (then-nowhere (k .leave .ensures) _ (c .before .n .given .1))
 
 pub seek-behind-spec : {M : Type 1} → statement M
 seek-behind-spec =
     tie.close
     (tie.spec
+    full-blocks-requires
+    returns
     leave-requires
     enum-known-landed
     search-block-requires
     at-place-requires
     enum-known-n
-    returns
-    returns-2)
+    returns-2
+    returns-3)

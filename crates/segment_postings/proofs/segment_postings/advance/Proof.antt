@@ -5,7 +5,8 @@ use mathlib.Core.Path.{_≡_, sym, ap, _∙_}
 use Rattle.segment_postings.specs.declared.SegmentPostings.{SegmentPostings}
 use Rattle.segment_postings.specs.Cursor.{stepping, advanced}
 use Rattle.segment_postings.specs.Calls.{cursorOf}
-use Rattle.segment_postings.proofs.Lent.{reaches-as, reached-at, same-cursor, moved-at, moved-nowhere, stepping-place}
+use Rattle.segment_postings.proofs.Lent.{reaches-as, reached-at, same-cursor, moved-at, moved-nowhere}
+use Rattle.segment_postings.proofs.Near.{stepping-near}
 use borrow.Author.Needs.{needs}
 use Rattle.segment_postings.proofs.segment_postings.advance.Statement.{statement}
 use Rattle.segment_postings.proofs.segment_postings.advance.Tie as tie
@@ -34,7 +35,7 @@ moved-to-requires : tie.Need-moved-to-requires
 unfolding cursorOf
 moved-to-requires c κs =
     let h = c .before in
-    stepping-place _ _ _ (reached-at (h .before .before .step-in .ensures) (h .held .given .1))
+    stepping-near _ _ _ (reached-at (h .before .before .step-in .ensures) (h .held .given .1)) .0
 
 enum-known-n : tie.Need-enum-known-n
 enum-known-n c = search needs

@@ -1,9 +1,7 @@
 -- `segment_postings::segment_postings::doc` meets its contract: the cursor's numbers are those that are passed.
 -- Assumes nothing.
-use mathlib.Core.Path.{ap, subst, _∙_}
-use Rattle.segment_postings.specs.declared.Held.{Held}
 use Rattle.segment_postings.specs.Cursor.{docAt}
-use Rattle.segment_postings.specs.Calls.{cursorOf, heldOf, valued}
+use Rattle.segment_postings.specs.Calls.{cursorOf, heldOf}
 use borrow.Author.Needs.{needs}
 use Rattle.segment_postings.proofs.segment_postings.doc.Statement.{statement}
 use Rattle.segment_postings.proofs.segment_postings.doc.Tie as tie

@@ -1,6 +1,6 @@
 -- `segment_postings::segment_postings::open` meets its contract: where the core came to, put together, is where the definition comes to.
 -- Assumes nothing.
-use mathlib.Core.Path.{sym, ap, _∙_}
+use mathlib.Core.Path.{sym, _∙_}
 use native.Mathlib.Omega.{arith}
 use Rattle.segment_postings.specs.Cursor.{opened, blank}
 use Rattle.segment_postings.specs.Calls.{cursorOf}
