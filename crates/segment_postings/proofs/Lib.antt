@@ -22,6 +22,7 @@ pub mod Taking
 pub mod TotalBlocks
 pub mod TotalWalk
 pub mod Turns
+pub mod Unopened
 pub mod Walk
 pub mod WalkShows
 pub mod WalkStands

@@ -105,12 +105,13 @@ unfolding answerAt
 moved t before (ok c) = record { answer = answerAt t c; cursor = c }
 moved t before (refused n) = record { answer = Refused n; cursor = before }
 
--- an opened block starts as 128 places holding TERMINATED, with frequency 1; a refused opening leaves it so
+-- an opened block starts as 128 places holding TERMINATED, with frequency 1; a refused opening leaves it so, at none of the places: every
+-- call on it is refused (16)
 unfoldable pub blank : SegmentPostings
 blank = record {
   docs = replicate 128 TERMINATED;
   freqs = replicate 128 1;
-  place = 0;
+  place = 128;
   block = 0;
   next = 0;
   «last_doc» = 0;

@@ -11,6 +11,7 @@ use crate::core::at_end;
 use crate::core::in_bounds;
 use crate::core::open_in;
 use crate::core::step_in;
+use format::COMPRESSION_BLOCK_SIZE;
 use format::STATE_BROKEN;
 use format::TERMINATED;
 use format::Term;
@@ -61,14 +62,14 @@ pub(crate) fn moved_to(held: Held, term: Term, docs: [u32; 128], freqs: [u32; 12
     }
 }
 
-// A cursor of no list: 128 places that hold TERMINATED, with frequency 1.
+// A cursor of no list: 128 places that hold TERMINATED, with frequency 1. It is at none of them, so that every call on it is refused.
 fn blank() -> SegmentPostings
     ensures { λ r. ⌜ r ≡ blank ⌝ }
 {
     SegmentPostings {
         docs: [2147483647; 128],
         freqs: [1; 128],
-        place: 0,
+        place: COMPRESSION_BLOCK_SIZE,
         block: 0,
         next: 0,
         last_doc: 0,
