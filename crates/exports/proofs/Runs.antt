@@ -86,21 +86,22 @@ abbrev pub untouched : ℕ → (skips postings output : List ℕ) → Left
 untouched n skips postings output = record { answer = Refused n; skips = skips; postings = postings; output = output }
 
 module _ (mode : ℕ) (recording : Bool) (ds fs : List ℕ) (announced : ℕ) (skips postings output : List ℕ) where
-  pub docs-differ : (length ds ≡ length fs → ⊥) →
-      docsLeft mode recording ds fs announced skips postings output ≡ untouched countMismatch skips postings output
-  unfolding docsLeft choose
-  docs-differ differ = rw (ne-eqb _ _ differ)
-
-  module _ (as-many : length ds ≡ length fs) (begun : Step) (begins : begun ≡ beginning mode recording) (n : ℕ) where
+  module _ (begun : Step) (begins : begun ≡ beginning mode recording) (n : ℕ) where
     pub docs-refused : begun .answer ≡ Refused n →
         docsLeft mode recording ds fs announced skips postings output ≡ untouched n skips postings output
-    unfolding docsLeft choose unlessRefused
-    docs-refused e = rw (eq-eqb _ _ as-many, ← begins, e)
+    unfolding docsLeft unlessRefused
+    docs-refused e = rw (← begins, e)
 
-    pub docs-run : begun .answer ≡ Bytes n →
-        docsLeft mode recording ds fs announced skips postings output ≡ endRun (runDocs (begun .state) ds fs skips postings) announced output
-    unfolding docsLeft choose unlessRefused
-    docs-run e = rw (eq-eqb _ _ as-many, ← begins, e)
+    module _ (e : begun .answer ≡ Bytes n) where
+      pub docs-differ : (length ds ≡ length fs → ⊥) →
+          docsLeft mode recording ds fs announced skips postings output ≡ untouched countMismatch skips postings output
+      unfolding docsLeft choose unlessRefused
+      docs-differ differ = rw (← begins, e, ne-eqb _ _ differ)
+
+      pub docs-run : length ds ≡ length fs →
+          docsLeft mode recording ds fs announced skips postings output ≡ endRun (runDocs (begun .state) ds fs skips postings) announced output
+      unfolding docsLeft choose unlessRefused
+      docs-run as-many = rw (← begins, e, eq-eqb _ _ as-many)
 
 -- ---- answers as numbers
 

@@ -80,15 +80,15 @@ endRun run announced output =
     (λ n. record { answer = Refused n; skips = run .areas .skips; postings = run .areas .postings; output = output })
     (closingLeft (run .areas) announced output)
 
--- 14 for slices of different length, then what the single calls answer: beginning, each document, closing
+-- beginning, 14 for slices of different length, then what the other single calls answer: each document, closing
 unfoldable pub docsLeft : ℕ → Bool → (ds fs : List ℕ) → ℕ → (skips postings output : List ℕ) → Left
 unfolding choose unlessRefused endRun runDocs
 docsLeft mode recording ds fs announced skips postings output =
-    choose (eqb (length ds) (length fs))
-    (λ _. unlessRefused (beginning mode recording .answer)
+    unlessRefused (beginning mode recording .answer)
     (λ n. record { answer = Refused n; skips = skips; postings = postings; output = output })
-    (endRun (runDocs (beginning mode recording .state) ds fs skips postings) announced output))
-    (λ _. record { answer = Refused countMismatch; skips = skips; postings = postings; output = output })
+    (choose (eqb (length ds) (length fs))
+    (λ _. endRun (runDocs (beginning mode recording .state) ds fs skips postings) announced output)
+    (λ _. record { answer = Refused countMismatch; skips = skips; postings = postings; output = output }))
 
 -- what is found is what a run leaves
 pub record Ran (run : Run) (skips′ postings′ : List ℕ) (r : Step) : Type 0 where

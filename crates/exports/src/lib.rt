@@ -92,7 +92,8 @@ fn write_term(
     closed.answer
 }
 
-// The same by single calls: a term is begun, each document written, and the term closed with the announced count.
+// The same by single calls: a term is begun, each document written, and the term closed with the announced count. As for a whole list, 1
+// is asked first, then 14 of slices of different length.
 #[no_mangle]
 pub extern "C" fn vilthorwy_write_docs(
     mode: u8,
@@ -108,13 +109,13 @@ pub extern "C" fn vilthorwy_write_docs(
         (now (skips .entry)) (now (postings .entry)) (now (output .entry)))
         (now (skips .exit)) (now (postings .exit)) (now (output .exit)) r ⌝ }
 {
-    if ids.len() != freqs.len() {
-        return code(Answer::Refused(COUNT_MISMATCH));
-    }
     let begun = new_term(mode, recording != 0);
     let answer = begun.answer;
     let Answer::Bytes(_) = answer else {
         return code(answer);
     };
+    if ids.len() != freqs.len() {
+        return code(Answer::Refused(COUNT_MISMATCH));
+    }
     code(write_term(begun.state, ids, freqs, announced, skips, postings, output))
 }

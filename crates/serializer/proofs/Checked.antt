@@ -3,7 +3,7 @@
 -- Assumes nothing.
 use mathlib.Core.Bool.{true, not, _||_ as or, and-eq-true-iff}
 use mathlib.Core.List.{List, [], _∷_}
-use mathlib.Core.Path.{_≡_, refl, sym, _∙_}
+use mathlib.Core.Path.{_≡_, refl, _∙_}
 use Prim.Native.Nat.{ℕ, _+_, _≤_, _<_}
 use native.Mathlib.Omega.{arith}
 use borrow.Author.Tests.{lt-ltb, le-ltb, le-leb, lt-leb}
@@ -15,7 +15,7 @@ use Rattle.format.specs.Refusal.{idTooLarge, idNotRising, freqZero}
 use Rattle.format.specs.SkipEntry.{hasFreq}
 use Rattle.format.specs.Values.{rising}
 use Rattle.format.specs.Accepted.{takeDoc, takeDocs}
-use Rattle.format.proofs.Accepted.{Taken, takeDoc-ok}
+use Rattle.format.proofs.Accepted.{takeDoc-ok}
 use Rattle.format.proofs.Gaps.{drop-next}
 use Rattle.format.proofs.Outcome.{refused≢ok, andThen-ok}
 

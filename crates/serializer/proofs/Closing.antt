@@ -1,18 +1,17 @@
 -- Laws of closing a term: the questions in turn, and what is left where the image fits and where it doesn't.
 -- Assumes nothing.
-use mathlib.Core.Path.{_≡_, refl, sym, _∙_}
+use mathlib.Core.Path.{_≡_, refl, _∙_}
 use mathlib.Core.Bool.{Bool, true, false}
 use mathlib.Core.List.{List}
 use Prim.Native.Nat.{ℕ, _+_, _-_, _/_, _<_}
 use native.Mathlib.Omega.{arith}
 use lib.ListN.{length, take}
 use borrow.Author.Tests.{eq-eqb, ne-eqb, leb-false}
-use Rattle.format.specs.Basics.{ok, refused, ask, choose, fitsAt, putAt}
+use Rattle.format.specs.Basics.{ok, refused, ask, choose, fitsAt}
 use Rattle.format.specs.Refusal.{countMismatch, noRoom, stateBroken}
 use Rattle.format.specs.Values.{gaps, reduction, origin}
 use Rattle.format.proofs.Area.{putAt-refused}
 use Rattle.serializer.specs.declared.PostingsSerializer.{PostingsSerializer}
-use Rattle.serializer.specs.declared.Answer.{Answer}
 use Rattle.serializer.specs.declared.Answer.the-variants.{Bytes, Refused}
 use Rattle.serializer.specs.Calls.{answered, imageWith, Closed, ImagePut}
 use Rattle.serializer.specs.Pieces.{tailWith}

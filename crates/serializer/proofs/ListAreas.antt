@@ -1,15 +1,14 @@
 -- The two areas while a list's full blocks are written: they hold the entries and the blocks so far at their fronts, and behind them
 -- what stood there. Where all blocks fit the next one does, and puts its bytes behind the others.
 -- Assumes nothing.
-use mathlib.Core.Bool.{true, and-eq-true-iff}
-use mathlib.Core.List.{List, [], _++_}
-use mathlib.Core.Path.{_≡_, refl, sym, ap, ap₂, _∙_}
+use mathlib.Core.Bool.{true}
+use mathlib.Core.List.{List, _++_}
+use mathlib.Core.Path.{_≡_, refl, sym}
 use Prim.Native.Nat.{ℕ, _+_, _*_, _/_, _≤_, _<_}
 use native.Mathlib.Nat.{zero-add}
 use native.Mathlib.Numerals.{add-one}
 use native.Mathlib.Omega.{arith}
-use borrow.Author.Tests.{le-leb, leb-true}
-use lib.Dec.{leb}
+use borrow.Author.Tests.{le-leb}
 use lib.ListN.{length, getD, take, drop, length-append}
 use Rattle.format.specs.declared.IndexRecordOption.{IndexRecordOption}
 use Rattle.format.specs.Basics.{choose, fitsAt, putAt}
@@ -20,8 +19,8 @@ use Rattle.serializer.specs.declared.Placed.the-variants.{At, NoRoom}
 use Rattle.serializer.specs.Calls.{BlockWritten, blockFits}
 use Rattle.serializer.specs.Whole.{fullBlocks, blocksFit, BlocksPut}
 use Rattle.serializer.specs.Writer.{entryOf, blockOf, leastAfter, blocksOf}
-use Rattle.serializer.proofs.Blocks.{blocksOf-zero, blocks-next}
-use Rattle.serializer.proofs.ListBlocks.{blocks-within, least-next}
+use Rattle.serializer.proofs.Blocks.{blocksOf-zero, blocks-next, blocks-fewer}
+use Rattle.serializer.proofs.ListBlocks.{least-next, blocks-room}
 
 -- bytes go behind those at an area's front
 module _ (a b area : List ℕ) (h : length (a ++ b) ≤ length area) where
@@ -32,16 +31,7 @@ module _ (a b area : List ℕ) (h : length (a ++ b) ≤ length area) where
       rw (length-putAt 0 a area, le-leb _ _ room)
 
   behind-put : putAt (length a) b (putAt 0 a area) ≡ putAt 0 (a ++ b) area
-  behind-put = rw (zero-add) at (putAt-append 0 a b area (omega arith))
-
--- all blocks have room
-pub blocks-room : (option : IndexRecordOption) (ds fs skips postings : List ℕ) → blocksFit option ds fs skips postings ≡ true
-    → (length (fullBlocks option ds fs .skips) ≤ length skips) × (length (fullBlocks option ds fs .postings) ≤ length postings)
-unfolding blocksFit fitsAt
-blocks-room option ds fs skips postings e =
-    let blocks = fullBlocks option ds fs in
-    let both = and-eq-true-iff (leb (0 + length (blocks .skips)) (length skips)) (leb (0 + length (blocks .postings)) (length postings)) .0 e in
-    omega (arith, leb-true)
+  behind-put = rw zero-add at (putAt-append 0 a b area (omega arith))
 
 module _ (option : IndexRecordOption) (ds fs skips₀ postings₀ : List ℕ) where
   -- n blocks are written, up to the places p and q
@@ -94,7 +84,7 @@ module _ (option : IndexRecordOption) (ds fs skips₀ postings₀ : List ℕ) wh
       unfolding fullBlocks
       room =
           let all = blocks-room option ds fs skips₀ postings₀ fits in
-          let within = rw next at (blocks-within option ds fs (n + 1) (length ds / 128) (omega arith) (omega arith)) in
+          let within = rw next at (blocks-fewer option (n + 1) (length ds / 128) 0 ds fs (omega arith) (omega arith)) in
           (omega arith, omega arith)
 
       fit : blockFits option least (take 128 (drop (128 * n) ds)) (take 128 (drop (128 * n) fs)) p q skips postings ≡ true

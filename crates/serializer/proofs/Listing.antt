@@ -3,40 +3,26 @@
 -- Assumes nothing.
 use mathlib.Core.Bool.{Bool, true, false, _&&_ as and, and-eq-true-iff}
 use mathlib.Core.List.{List}
-use mathlib.Core.Path.{_≡_, refl, sym, ap, ap₂, _∙_}
-use Prim.Native.Nat.{ℕ, _/_, _≤_, _<_}
-use native.Mathlib.Nat.{zero-add}
-use native.Mathlib.Omega.{arith}
-use borrow.Author.Tests.{le-leb, lt-leb, eq-eqb, ne-eqb, leb-true}
+use mathlib.Core.Path.{_≡_, refl, sym, ap, _∙_}
+use Prim.Native.Nat.{ℕ, _≤_, _<_}
+use borrow.Author.Tests.{le-leb, lt-leb, eq-eqb, ne-eqb}
 use lib.Dec.{leb, eqb}
 use lib.ListN.{length, take}
 use Rattle.format.specs.declared.IndexRecordOption.{IndexRecordOption}
 use Rattle.format.specs.Basics.{Outcome, ok, refused, andThen, ask, choose, fitsAt, putAt}
 use Rattle.format.specs.Refusal.{unknownMode, countMismatch, noRoom}
-use Rattle.format.specs.Written.{Parts, image}
+use Rattle.format.specs.Written.{image}
 use Rattle.format.specs.Accepted.{keptIn, begin, takeDocs, written}
 use Rattle.format.proofs.Area.{length-putAt}
 use Rattle.serializer.specs.declared.Answer.{Answer}
 use Rattle.serializer.specs.declared.Answer.the-variants.{Bytes, Refused}
 use Rattle.serializer.specs.Calls.{answered, ImagePut, Listed}
 use Rattle.serializer.specs.Whole.{ListSized, PartsThere, fullBlocks, imageFrom, blocksFit, listFits, BlocksPut, ListPut}
-use Rattle.serializer.specs.Writer.{after, blocksOf, listing}
-use Rattle.serializer.proofs.ListAreas.{blocks-room}
-use Rattle.serializer.proofs.ListBlocks.{image-from, put-front}
+use Rattle.serializer.specs.Writer.{after, listing}
+use Rattle.serializer.proofs.ListBlocks.{image-from, front-fits, blocks-room, listFits-is, put-front}
 
--- ---- outcomes
+-- ---- an outcome that hangs on one question
 
-pub answered-refused : {A : Type 0} (bytes : A → ℕ) (o : Outcome A) {n : ℕ} → answered bytes o ≡ Refused n → o ≡ refused n
-unfolding answered
-answered-refused bytes (ok a) e = let never : _≡_ {A = ℕ} 0 1 = cc in absurd (omega arith)
-answered-refused bytes (refused n) e = cc
-
-pub answered-ok : {A : Type 0} (bytes : A → ℕ) (o : Outcome A) {n : ℕ} → answered bytes o ≡ Bytes n → (a : A) × (o ≡ ok a)
-unfolding answered
-answered-ok bytes (ok a) e = (a, refl)
-answered-ok bytes (refused n) e = let never : _≡_ {A = ℕ} 0 1 = cc in absurd (omega arith)
-
--- one question
 module _ {A : Type 0} {o : Outcome A} (n : ℕ) (a : A) where
   asked-answer : (bytes : A → ℕ) (t : Bool) → o ≡ (ask t n λ _. ok a)
       → answered bytes o ≡ choose t (λ _. Bytes (bytes a)) (λ _. Refused n)
@@ -71,15 +57,6 @@ listing-is : (mode : ℕ) (recording : Bool) (ds fs skips postings output : List
     ok image)
 unfolding listing blocksFit fullBlocks
 listing-is mode recording ds fs skips postings output = refl
-
-listFits-is : (option : IndexRecordOption) (ds fs skips postings : List ℕ) (len : ℕ)
-    → listFits option ds fs skips postings len ≡ and (blocksFit option ds fs skips postings) (leb (length (image option ds fs)) len)
-unfolding listFits
-listFits-is option ds fs skips postings len = refl
-
-front-fits : (bs area : List ℕ) → fitsAt 0 bs area ≡ leb (length bs) (length area)
-unfolding fitsAt
-front-fits bs area = rw zero-add
 
 -- ---- where a question is answered no
 

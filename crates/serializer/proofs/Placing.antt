@@ -1,7 +1,7 @@
 -- Laws of a block and its entry in their areas: a part that is lent from a place on and put back with bytes at its front is the
 -- whole with the bytes at that place; packed values that fit are put whole, and one part behind the other they are both put.
 -- Assumes nothing.
-use mathlib.Core.Path.{_≡_, refl, sym, ap, ap₂, _∙_}
+use mathlib.Core.Path.{_≡_, refl, ap₂, _∙_}
 use mathlib.Core.Bool.{Bool, true, false, _&&_ as and, and-eq-true-iff}
 use mathlib.Core.List.{List, [], _∷_, _++_, append-nil}
 use Prim.Native.Nat.{ℕ, suc, _+_, _-_, _*_, _^_, _≤_, _<_, suc-le-suc}

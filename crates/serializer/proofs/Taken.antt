@@ -2,19 +2,18 @@
 -- rise and that the document's lies above them, so that a block that it fills rises too. Whether that block has room decides what is
 -- left behind.
 -- Assumes nothing.
-use mathlib.Core.Path.{_≡_, refl, sym, ap, _∙_}
-use mathlib.Core.Bool.{Bool, true, false, _&&_ as and, and-eq-true-iff, and-true}
-use mathlib.Core.List.{List, [], _∷_, _++_}
+use mathlib.Core.Path.{_≡_, refl, sym, _∙_}
+use mathlib.Core.Bool.{Bool, true, false}
+use mathlib.Core.List.{List, [], _∷_}
 use Prim.Native.Nat.{ℕ, suc, _+_, _-_, _≤_, _<_}
 use native.Mathlib.Nat.{not-suc-le-zero}
 use native.Mathlib.Omega.{arith}
 use lib.Dec.{leb, ltb}
-use lib.ListN.{length, getD, take, drop, set, drop-of-length-le}
+use lib.ListN.{length, getD, take, set, drop-of-length-le}
 use lib.Seq.{length-take-le, set-split, getD-take}
 use borrow.Author.Tests.{le-leb, lt-ltb, le-ltb, leb-true, ltb-true}
 use Rattle.format.specs.Basics.{Outcome, ok, refused, andThen, ask, choose, lastOf, putAt, TERMINATED}
 use Rattle.format.specs.Refusal.{noRoom, stateBroken}
-use Rattle.format.specs.SkipEntry.{hasFreq}
 use Rattle.format.specs.Values.{rising}
 use Rattle.format.specs.Accepted.{takeDoc}
 use Rattle.format.proofs.Outcome.{ask-ok, andThen-ok}

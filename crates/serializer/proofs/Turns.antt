@@ -1,7 +1,7 @@
 -- Questions on lists, a turn at a time: what is asked of the ids or the frequencies from a place on is asked of the one there and of
 -- those behind it.
 -- Assumes nothing.
-use mathlib.Core.Path.{_≡_, refl}
+use mathlib.Core.Path.{_≡_}
 use mathlib.Core.Bool.{true, _&&_ as and}
 use mathlib.Core.List.{List}
 use Prim.Native.Nat.{ℕ, _+_, _≤_, _<_}

@@ -26,11 +26,7 @@ unfoldable pub fullBlocks : IndexRecordOption → List ℕ → List ℕ → Part
 unfolding blocksOf
 fullBlocks option ds fs = blocksOf option (length ds / 128) 0 ds fs
 
--- .. and how many documents they have
-abbrev pub inBlocks : List ℕ → ℕ
-inBlocks ds = 128 * (length ds / 128)
-
--- .. whose sizes are known
+-- .. and their sizes
 pub record ListSized (option : IndexRecordOption) (ds fs : List ℕ) (entries size : ℕ) : Type 0 where
   pub checked : Checked ds fs
   pub entries-are : entries ≡ length (fullBlocks option ds fs .skips)
@@ -48,18 +44,22 @@ pub record PartsThere (ds fs : List ℕ) (entries size : ℕ) (skips postings : 
   pub entries-there : entries ≤ length skips
   pub blocks-there : size ≤ length postings
 
+-- how many documents the full blocks have
+abbrev pub inBlocks : List ℕ → ℕ
+inBlocks ds = 128 * (length ds / 128)
+
 -- the image of the list, given the bytes of its entries and blocks
 unfoldable pub imageFrom : IndexRecordOption → List ℕ → List ℕ → List ℕ → List ℕ → List ℕ
 unfolding imageWith lastOf
 imageFrom option ds fs skips postings =
     imageWith (length ds / 128) skips postings option (lastOf 0 (take (inBlocks ds) ds)) (drop (inBlocks ds) ds) (drop (inBlocks ds) fs)
 
--- question 15
+-- question 15, of the two areas
 unfoldable pub blocksFit : IndexRecordOption → List ℕ → List ℕ → List ℕ → List ℕ → Bool
 unfolding fullBlocks fitsAt
 blocksFit option ds fs skips postings = and (fitsAt 0 (fullBlocks option ds fs .skips) skips) (fitsAt 0 (fullBlocks option ds fs .postings) postings)
 
--- .. with an output of len bytes
+-- .. and of an output of len bytes
 unfoldable pub listFits : IndexRecordOption → List ℕ → List ℕ → List ℕ → List ℕ → ℕ → Bool
 unfolding blocksFit image
 listFits option ds fs skips postings len = and (blocksFit option ds fs skips postings) (leb (length (image option ds fs)) len)

@@ -47,27 +47,23 @@ fn freq_width(option: IndexRecordOption, values: &[u32; 128]) -> u8
     }
 }
 
-// Whether an entry and a block of these widths fit their areas from two places on.
+// Whether an entry and a block of so many bits fit their areas from two places on.
 fn has_room(
     option: IndexRecordOption,
-    doc_width: u8,
-    freq_width: u8,
-    skips: usize,
+    bits: u8,
+    skips: &[u8],
     skips_at: usize,
-    postings: usize,
+    postings: &[u8],
     postings_at: usize,
 ) -> bool
-    requires { ⌜ «doc_width» + «freq_width» < 64 ⌝ }
-    ensures { λ r. ⌜ r ≡ and (leb («skips_at» + entrySize option) skips) (leb («postings_at» + 16 * («doc_width» + «freq_width»)) postings) ⌝ }
+    requires { ⌜ bits < 64 ⌝ }
+    ensures { λ r. ⌜ r ≡ and (leb («skips_at» + entrySize option) (length (now (skips .entry))))
+        (leb («postings_at» + 16 * bits) (length (now (postings .entry)))) ⌝ }
 {
-    if !within(skips_at, entry_size(option), skips) {
+    if !within(skips_at, entry_size(option), skips.len()) {
         return false;
     }
-    within(
-        postings_at,
-        compressed_block_size(doc_width + freq_width),
-        postings,
-    )
+    within(postings_at, compressed_block_size(bits), postings.len())
 }
 
 // Packs values into an area from a place on, where they fit.
@@ -127,15 +123,8 @@ pub(crate) fn write_block(
     reduce_freqs(&mut freq_values);
     let doc_width = num_bits(&doc_values);
     let freq_width = freq_width(option, &freq_values);
-    if !has_room(
-        option,
-        doc_width,
-        freq_width,
-        skips.len(),
-        skips_at,
-        postings.len(),
-        postings_at,
-    ) {
+    let bits = doc_width + freq_width;
+    if !has_room(option, bits, skips, skips_at, postings, postings_at) {
         return Placed::NoRoom;
     }
     put_block(

@@ -118,8 +118,8 @@ fn blocks_size(option: IndexRecordOption, ids: &[u32], freqs: &[u32]) -> usize
 {
     let mut size = 0;
     let mut least = 0u32;
-    for n in 0..ids.len() / 128 {
-        let at = 128 * n;
+    for i in 0..ids.len() / 128 {
+        let at = 128 * i;
         size += block_size(option, least, ids, freqs, at);
         least = ids[at + 127] + 1;
     }
@@ -183,13 +183,13 @@ fn write_next(
     ensures { λ r. ⌜ BlockWritten option least (take 128 (drop at (now (ids .entry)))) (take 128 (drop at (now (freqs .entry)))) «skips_at» «postings_at»
         (now (skips .entry)) (now (postings .entry)) (now (skips .exit)) (now (postings .exit)) r ⌝ }
 {
-    let docs = copy_block(ids, at);
-    let counts = copy_block(freqs, at);
+    let block_docs = copy_block(ids, at);
+    let block_freqs = copy_block(freqs, at);
     write_block(
         option,
         least,
-        &docs,
-        &counts,
+        &block_docs,
+        &block_freqs,
         skips,
         skips_at,
         postings,
@@ -213,10 +213,7 @@ fn write_blocks(
     let mut postings_at = 0;
     for n in 0..ids.len() / 128 {
         let at = 128 * n;
-        let Placed::At {
-            skips: s,
-            postings: p,
-        } = write_next(
+        let placed = write_next(
             option,
             least,
             ids,
@@ -226,7 +223,11 @@ fn write_blocks(
             skips_at,
             postings,
             postings_at,
-        )
+        );
+        let Placed::At {
+            skips: s,
+            postings: p,
+        } = placed
         else {
             return;
         };

@@ -1,19 +1,11 @@
--- `exports::vilthorwy_write_docs` meets its contract: slices of different length and an unknown mode are refused first.
+-- `exports::vilthorwy_write_docs` meets its contract: an unknown mode is refused first, then slices of different length.
 -- Assumes nothing.
 use mathlib.Core.Path.{ap, _∙_}
 use borrow.Author.Needs.{needs}
 use Rattle.exports.specs.Exports.{coded, recorded}
-use Rattle.exports.proofs.Runs.{docs-differ, docs-refused, docs-run, coded-refusal, coded-leaves}
+use Rattle.exports.proofs.Runs.{docs-refused, docs-differ, docs-run, coded-refusal, coded-leaves}
 use Rattle.exports.proofs.vilthorwy_write_docs.Statement.{statement}
 use Rattle.exports.proofs.vilthorwy_write_docs.Tie as tie
-
-code-requires : tie.Need-code-requires
-code-requires c κs = search needs
-
-returns : tie.Need-returns
-returns c =
-    let a = c .before .before .before .before .before .before .before .args in
-    coded-refusal _ _ _ _ _ _ (docs-differ (a .mode) (recorded (a .recording)) _ _ (a .announced) _ _ _ (c .before .if1 .taken)) (c .code .ensures)
 
 new-term-requires : tie.Need-new-term-requires
 new-term-requires c κs = search needs
@@ -24,17 +16,29 @@ enum-told c = search needs
 enum-told-2 : tie.Need-enum-told-2
 enum-told-2 c = search needs
 
+code-requires : tie.Need-code-requires
+code-requires c κs = search needs
+
+returns : tie.Need-returns
+returns c =
+    let begun = c .before .before .before in
+    let a = begun .before .before .before .before .before .before .args in
+    let told = c .before .enum-told2 .given .1 in
+    coded-refusal _ _ _ _ _ _
+    (docs-refused (a .mode) (recorded (a .recording)) _ _ (a .announced) _ _ _ _ (begun .new-term .ensures) _ told)
+    (c .code .ensures ∙ ap coded told)
+
 code-requires-2 : tie.Need-code-requires-2
 code-requires-2 c κs = search needs
 
 returns-2 : tie.Need-returns-2
 returns-2 c =
-    let begun = c .before .before .before in
-    let a = begun .before .before .before .before .before .before .before .args in
-    let told = c .before .enum-told2 .given .1 in
+    let told = c .before .before in
+    let begun = told .before .before in
+    let a = begun .before .before .before .before .before .before .args in
     coded-refusal _ _ _ _ _ _
-    (docs-refused (a .mode) (recorded (a .recording)) _ _ (a .announced) _ _ _ (begun .before .if1 .left) _ (begun .new-term .ensures) _ told)
-    (c .code2 .ensures ∙ ap coded told)
+    (docs-differ (a .mode) (recorded (a .recording)) _ _ (a .announced) _ _ _ _ (begun .new-term .ensures) _ (told .enum-told .given .1) (c .before .if1 .taken))
+    (c .code2 .ensures)
 
 write-term-requires : tie.Need-write-term-requires
 write-term-requires c κs = search needs
@@ -54,22 +58,23 @@ same-length-3 c = search needs
 returns-3 : tie.Need-returns-3
 returns-3 c =
     let wrote = c .before .before .before .before .before .before .before in
-    let told = wrote .before .before .before .before in
+    let same = wrote .before .before .before .before in
+    let told = same .before in
     let begun = told .before .before in
-    let a = begun .before .before .before .before .before .before .before .args in
+    let a = begun .before .before .before .before .before .before .args in
     coded-leaves
-    (docs-run (a .mode) (recorded (a .recording)) _ _ (a .announced) _ _ _ (begun .before .if1 .left) _ (begun .new-term .ensures) _ (told .enum-told .given .1))
+    (docs-run (a .mode) (recorded (a .recording)) _ _ (a .announced) _ _ _ _ (begun .new-term .ensures) _ (told .enum-told .given .1) (same .if1 .left))
     (wrote .write-term .ensures) (c .code3 .ensures)
 
 pub vilthorwy-write-docs-spec : {M : Type 1} → statement M
 vilthorwy-write-docs-spec =
     tie.close
     (tie.spec
-    code-requires
-    returns
     new-term-requires
     enum-told
     enum-told-2
+    code-requires
+    returns
     code-requires-2
     returns-2
     write-term-requires

@@ -1,6 +1,5 @@
 -- `serializer::write_doc` meets its contract: what is asked refuses the document, or says that it may be taken.
 -- Assumes nothing.
-use mathlib.Core.Path.{_≡_, sym, _∙_}
 use denote.Ref.{now}
 use lib.ListN.{length}
 use borrow.Author.Needs.{needs}

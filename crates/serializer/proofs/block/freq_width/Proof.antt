@@ -1,10 +1,8 @@
 -- `serializer::block::freq_width` meets its contract.
 -- Assumes nothing.
-use mathlib.Core.Path.{_≡_, sym, _∙_}
-use mathlib.Core.Bool.{true, false}
+use mathlib.Core.Path.{sym, _∙_}
 use Rattle.format.specs.Basics.{choose}
 use Rattle.format.specs.Bitpacking.{width, bitsF, largest}
-use Rattle.format.specs.SkipEntry.{hasFreq}
 use Rattle.format.specs.Written.{onlyIf}
 use borrow.Author.Needs.{needs}
 use Rattle.serializer.proofs.block.freq_width.Statement.{statement}

@@ -1,8 +1,6 @@
 -- `serializer::block::has_room` meets its contract.
 -- Assumes nothing.
-use mathlib.Core.Path.{_≡_, sym, ap, _∙_}
-use mathlib.Core.Bool.{true, false}
-use Prim.Native.Nat.{ℕ, _+_}
+use mathlib.Core.Path.{sym, _∙_}
 use borrow.Author.Tests.{not-true, not-false}
 use borrow.Author.Needs.{needs}
 use Rattle.serializer.proofs.block.has_room.Statement.{statement}
@@ -18,9 +16,6 @@ returns : tie.Need-returns
 returns c =
     let fits = rw (c .before .before .entry-size .ensures) at (c .before .within .ensures) in
     rw (sym fits ∙ not-true _ (c .if1 .taken))
-
-add-compressed-block-size : tie.Need-add-compressed-block-size
-add-compressed-block-size c = search needs
 
 compressed-block-size-requires : tie.Need-compressed-block-size-requires
 compressed-block-size-requires c κs = search needs
@@ -41,7 +36,6 @@ has-room-spec =
     entry-size-requires
     within-requires
     returns
-    add-compressed-block-size
     compressed-block-size-requires
     within-requires-2
     returns-2)

@@ -40,15 +40,27 @@ valued c =
       freq-width = c .freq-width .ensures ∙ rw freqs;
     }
 
-has-room-requires : tie.Need-has-room-requires
-has-room-requires c κs =
+add-bits : tie.Need-add-bits
+add-bits c =
     let start = c .before .before .before .before .before .before .before .before .before .before .before .before in
     omega (arith, valued-narrow _ _ _ _ (valued c) (start .pre))
 
+has-room-requires : tie.Need-has-room-requires
+has-room-requires c κs =
+    let widths = c .before .before in
+    let start = widths .before .before .before .before .before .before .before .before .before .before .before .before in
+    omega (arith, valued-narrow _ _ _ _ (valued widths) (start .pre))
+
 -- whether both fit is what was asked
-room-is : (c : tie.After-has-room) → let a = c .before .before .before .before .before .before .before .before .before .before .before .before .before .args in
+room-is : (c : tie.After-has-room) → let a = c .before .before .before .before .before .before .before .before .before .before .before .before .before .before .before .args in
     c .has-room .result ≡ blockFits (a .option) (a .least) (now (a .docs)) (now (a .freqs)) (a .skips-at) (a .postings-at) (now (a .skips)) (now (a .postings))
-room-is c = c .has-room .ensures ∙ sym (valued-fits _ _ _ _ (valued (c .before)) _ _ _ _)
+room-is c = c .has-room .ensures ∙ sym (valued-fits _ _ _ _ (valued (c .before .before .before)) _ _ _ _)
+
+same-length : tie.Need-same-length
+same-length c = search needs
+
+same-length-2 : tie.Need-same-length-2
+same-length-2 c = search needs
 
 returns : tie.Need-returns
 returns c = block-refused _ _ _ _ _ _ _ _ (sym (room-is (c .before)) ∙ not-true _ (c .if1 .taken))
@@ -59,21 +71,21 @@ last-of-requires c κs = search needs
 put-block-requires : tie.Need-put-block-requires
 put-block-requires c κs =
     let room = c .before .before .before .before .before .before in
-    let start = room .before .before .before .before .before .before .before .before .before .before .before .before .before .before in
-    valued-room _ _ _ _ (valued (room .before .before)) _ _ _ _ (start .pre) (sym (room .before .has-room .ensures) ∙ not-false _ (room .if1 .left))
+    let start = room .before .before .before .before .before .before .before .before .before .before .before .before .before .before .before .before in
+    valued-room _ _ _ _ (valued (room .before .before .before .before)) _ _ _ _ (start .pre) (sym (room .before .has-room .ensures) ∙ not-false _ (room .if1 .left))
 
-same-length : tie.Need-same-length
-same-length c = search needs
+same-length-3 : tie.Need-same-length-3
+same-length-3 c = search needs
 
-same-length-2 : tie.Need-same-length-2
-same-length-2 c = search needs
+same-length-4 : tie.Need-same-length-4
+same-length-4 c = search needs
 
 returns-2 : tie.Need-returns-2
 returns-2 c =
     let put = c .before .before .before .before in
     let last = put .before .before .before .before .before in
     let room = last .before .before in
-    block-written _ _ _ _ (valued (room .before .before)) _ _ _ _ (sym (room-is (room .before)) ∙ not-false _ (room .if1 .left))
+    block-written _ _ _ _ (valued (room .before .before .before .before)) _ _ _ _ (sym (room-is (room .before)) ∙ not-false _ (room .if1 .left))
     (last .last-of .ensures) (put .put-block .ensures)
 
 pub write-block-spec : {M : Type 1} → statement M
@@ -84,10 +96,13 @@ write-block-spec =
     reduce-freqs-requires
     num-bits-requires
     freq-width-requires
+    add-bits
     has-room-requires
+    same-length
+    same-length-2
     returns
     last-of-requires
     put-block-requires
-    same-length
-    same-length-2
+    same-length-3
+    same-length-4
     returns-2)

@@ -1,6 +1,5 @@
 -- `serializer::document::finish` meets its contract: whether the block had room decides, and `write_block` says so.
 -- Assumes nothing.
-use mathlib.Core.Path.{_≡_, sym, ap, _∙_}
 use denote.Ref.{now}
 use borrow.Author.Needs.{needs}
 use Rattle.serializer.specs.Calls.{BlockWritten}

@@ -1,6 +1,6 @@
 -- `serializer::document::may_take` meets its contract: the questions are asked in the definition's order, and the first no ends it.
 -- Assumes nothing.
-use mathlib.Core.Path.{_≡_, sym, ap, _∙_}
+use mathlib.Core.Path.{_≡_, sym, _∙_}
 use mathlib.Core.Bool.{true}
 use borrow.Author.Tests.{not-true, not-false}
 use borrow.Author.Needs.{needs}

@@ -1,12 +1,12 @@
 -- `serializer::document::take` meets its contract: the document waits, or it fills a block, which rises since the waiting ids do and
 -- this one lies above them.
 -- Assumes nothing.
-use mathlib.Core.Path.{_≡_, sym, ap, _∙_}
+use mathlib.Core.Path.{_≡_}
 use native.Mathlib.Omega.{arith}
 use denote.Ref.{now}
 use lib.ListN.{length}
 use borrow.Author.Needs.{needs}
-use Rattle.serializer.specs.Writer.{firstLeast, stored}
+use Rattle.serializer.specs.Writer.{stored}
 use Rattle.serializer.proofs.Taken.{Admitted, admitted, least-small, filled-rises, settled-ok, taking-waits, taking-fills}
 use Rattle.serializer.proofs.document.take.Statement.{statement}
 use Rattle.serializer.proofs.document.take.Tie as tie

@@ -1,6 +1,6 @@
 -- `serializer::document::without_block` meets its contract: the last of 128 ids is the one in the last place.
 -- Assumes nothing.
-use mathlib.Core.Path.{_≡_, sym, ap, _∙_}
+use mathlib.Core.Path.{_≡_, ap, _∙_}
 use Prim.Native.Nat.{ℕ, _-_}
 use lib.ListN.{length, getD}
 use borrow.Author.Needs.{needs}

@@ -1,6 +1,6 @@
 -- `serializer::image::freqs_size` meets its contract.
 -- Assumes nothing.
-use mathlib.Core.Path.{_≡_, sym, ap, _∙_}
+use mathlib.Core.Path.{sym, ap, _∙_}
 use lib.ListN.{length}
 use borrow.Author.Needs.{needs}
 use Rattle.serializer.proofs.Pieces.{kept, left-out}

@@ -1,9 +1,8 @@
 -- `serializer::image::image_fits` meets its contract: the sizes are those of the image's parts.
 -- Assumes nothing.
-use mathlib.Core.Path.{_≡_, sym, ap, _∙_}
+use mathlib.Core.Path.{sym, ap, _∙_}
 use Prim.Native.Nat.{ℕ}
 use lib.Dec.{leb}
-use lib.ListN.{length, length-append}
 use borrow.Author.Needs.{needs}
 use Rattle.serializer.proofs.Pieces.{image-length}
 use Rattle.serializer.proofs.image.image_fits.Statement.{statement}

@@ -1,6 +1,6 @@
 -- `serializer::image::put_freqs` meets its contract.
 -- Assumes nothing.
-use mathlib.Core.Path.{_≡_, sym, _∙_}
+use mathlib.Core.Path.{sym, _∙_}
 use denote.Ref.{now}
 use borrow.Author.Needs.{needs}
 use Rattle.format.specs.SkipEntry.{hasFreq}

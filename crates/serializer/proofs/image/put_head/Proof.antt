@@ -1,6 +1,5 @@
 -- `serializer::image::put_head` meets its contract: the entries go behind their length.
 -- Assumes nothing.
-use mathlib.Core.Path.{_≡_, sym, _∙_}
 use mathlib.Core.List.{_++_}
 use Prim.Native.Nat.{_+_, _≤_}
 use native.Mathlib.Omega.{arith}

@@ -1,6 +1,5 @@
 -- `serializer::image::put_tail` meets its contract: the frequencies go behind the ids.
 -- Assumes nothing.
-use mathlib.Core.Path.{_≡_, sym, _∙_}
 use mathlib.Core.List.{List, _++_}
 use Prim.Native.Nat.{ℕ, _+_, _≤_}
 use denote.Ref.{now}

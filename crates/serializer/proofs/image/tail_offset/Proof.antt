@@ -1,6 +1,5 @@
 -- `serializer::image::tail_offset` meets its contract.
 -- Assumes nothing.
-use mathlib.Core.Path.{sym}
 use native.Mathlib.Nat.{add-sub-cancel}
 use borrow.Author.Tests.{lt-ltb, le-ltb}
 use borrow.Author.Needs.{needs}

@@ -1,7 +1,7 @@
 -- `serializer::list::check_docs` meets its contract. The loop's invariant: the documents still to come answer what all of them
 -- answer. The measure is their number.
 -- Assumes nothing.
-use mathlib.Core.Path.{_≡_, refl, sym, ap, _∙_}
+use mathlib.Core.Path.{refl, sym, ap}
 use Prim.Native.Nat.{_-_, _≤_}
 use native.Mathlib.Omega.{arith}
 use denote.Ref.{now}
@@ -12,9 +12,6 @@ use Rattle.serializer.specs.Calls.{answered}
 use Rattle.serializer.proofs.Checked.{Passes, Asked, asked-end, asked-next, too-large, not-rising, freq-zero}
 use Rattle.serializer.proofs.list.check_docs.Statement.{statement}
 use Rattle.serializer.proofs.list.check_docs.Tie as tie
-use Rattle.serializer.proofs.list.check_docs.Reads as reads
-use Rattle.serializer.proofs.list.check_docs.Lts as lts
-use Rattle.serializer.proofs.list.least_freq.Reads as least-freq-reads
 
 abbrev Inv-loop : tie.InvT-loop
 Inv-loop ids freqs least-freq least₀ i₀ i-end least i =

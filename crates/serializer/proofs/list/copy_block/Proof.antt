@@ -1,5 +1,5 @@
--- `serializer::list::copy_block` meets its contract. The loop's invariant: the first i places of the block are the first i values. The measure is
--- the places left.
+-- `serializer::list::copy_block` meets its contract. The loop's invariant: the first i places of the block hold the first i values.
+-- The measure is the places left.
 -- Assumes nothing.
 use mathlib.Core.Path.{_≡_, refl, sym, _∙_}
 use Prim.Native.Nat.{_-_, _≤_, _<_}
@@ -10,8 +10,6 @@ use lib.ListN.{length, take, drop, length-set, length-drop}
 use lib.Seq.{take-all, take-suc, take-suc-set, getD-drop}
 use Rattle.serializer.proofs.list.copy_block.Statement.{statement}
 use Rattle.serializer.proofs.list.copy_block.Tie as tie
-use Rattle.serializer.proofs.list.copy_block.Reads as reads
-use Rattle.serializer.proofs.list.copy_block.Lts as lts
 
 abbrev Inv-loop : tie.InvT-loop
 Inv-loop values at block₀ i₀ block i =

@@ -1,6 +1,5 @@
 -- `serializer::list::entries_size` meets its contract: a slice holds so few ids that the entries' bytes fit.
 -- Assumes nothing.
-use mathlib.Core.Path.{_≡_}
 use Prim.Native.Nat.{_/_}
 use native.Mathlib.Omega.{arith}
 use denote.Ref.{now}

@@ -1,19 +1,16 @@
 -- `serializer::list::freqs_width` meets its contract: where no frequency is kept, there are no values.
 -- Assumes nothing.
-use mathlib.Core.Path.{_≡_, sym, ap, _∙_}
-use mathlib.Core.Bool.{true, false}
+use mathlib.Core.Path.{sym, ap, _∙_}
+use mathlib.Core.Bool.{true}
 use borrow.Author.Needs.{needs}
 use borrow.Author.Tests.{not-true, not-false}
 use Rattle.format.specs.Basics.{choose}
 use Rattle.format.specs.Bitpacking.{bitsF, largest, width}
-use Rattle.format.specs.SkipEntry.{hasFreq}
 use Rattle.format.specs.Values.{reduced}
 use Rattle.format.specs.Written.{onlyIf}
 use Rattle.serializer.specs.Writer.{freqValues}
 use Rattle.serializer.proofs.list.freqs_width.Statement.{statement}
 use Rattle.serializer.proofs.list.freqs_width.Tie as tie
-use Rattle.serializer.proofs.list.freqs_width.Reads as reads
-use Rattle.serializer.proofs.list.freqs_width.Lts as lts
 
 has-freq-requires : tie.Need-has-freq-requires
 has-freq-requires c κs = search needs

@@ -1,4 +1,7 @@
-use mathlib.Core.Path.{_≡_, sym, _∙_}
+-- `serializer::list::list_fits` meets its contract. The areas' own bytes stand in for those that are not written yet: the size of an
+-- image goes by the sizes of its parts.
+-- Assumes nothing.
+use mathlib.Core.Path.{sym, _∙_}
 use native.Mathlib.Omega.{arith}
 use denote.Ref.{now}
 use lib.Seq.{length-take-le}
@@ -6,10 +9,6 @@ use Rattle.serializer.proofs.ListBlocks.{image-parts, entries-refused, 
 use borrow.Author.Needs.{needs}
 use Rattle.serializer.proofs.list.list_fits.Statement.{statement}
 use Rattle.serializer.proofs.list.list_fits.Tie as tie
-use Rattle.serializer.proofs.list.list_fits.Reads as reads
-use Rattle.serializer.proofs.list.list_fits.Lts as lts
-use Rattle.serializer.proofs.block.last_of.Reads as last-of-reads
-use Rattle.serializer.proofs.image.image_fits.Reads as image-fits-reads
 
 returns : tie.Need-returns
 returns c =

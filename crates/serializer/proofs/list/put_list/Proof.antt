@@ -1,15 +1,13 @@
-use mathlib.Core.Path.{_≡_, sym, _∙_}
+-- `serializer::list::put_list` meets its contract: what lies behind the full blocks is the tail.
+-- Assumes nothing.
+use mathlib.Core.Path.{sym}
 use native.Mathlib.Omega.{arith}
 use denote.Ref.{now}
 use lib.Seq.{length-take-le}
-use Rattle.serializer.proofs.ListBlocks.{image-parts, entries-refused, blocks-refused, fits-image}
+use Rattle.serializer.proofs.ListBlocks.{image-parts}
 use borrow.Author.Needs.{needs}
 use Rattle.serializer.proofs.list.put_list.Statement.{statement}
 use Rattle.serializer.proofs.list.put_list.Tie as tie
-use Rattle.serializer.proofs.list.put_list.Reads as reads
-use Rattle.serializer.proofs.list.put_list.Lts as lts
-use Rattle.serializer.proofs.block.last_of.Reads as last-of-reads
-use Rattle.serializer.proofs.image.put_image.Reads as put-image-reads
 
 mul-at : tie.Need-mul-at
 mul-at c = search needs

@@ -1,8 +1,8 @@
 -- `serializer::list::write_blocks` meets its contract. The loop's invariant: the blocks so far are written. The measure is the blocks
 -- left. As all blocks fit, none is refused.
 -- Assumes nothing.
-use mathlib.Core.Path.{_≡_, refl, sym, ap, _∙_}
-use Prim.Native.Nat.{ℕ, _+_, _-_, _*_, _/_, _≤_, _<_}
+use mathlib.Core.Path.{_≡_}
+use Prim.Native.Nat.{_+_, _-_, _*_, _/_, _≤_}
 use native.Mathlib.Omega.{arith}
 use borrow.Author.Needs.{needs}
 use denote.Ref.{now}
@@ -12,9 +12,6 @@ use Rattle.serializer.proofs.ListBlocks.{block-rises, id-below}
 use Rattle.serializer.proofs.ListAreas.{Written, written-none, written-next, written-all, not-refused, skips-kept, postings-kept}
 use Rattle.serializer.proofs.list.write_blocks.Statement.{statement}
 use Rattle.serializer.proofs.list.write_blocks.Tie as tie
-use Rattle.serializer.proofs.list.write_blocks.Reads as reads
-use Rattle.serializer.proofs.list.write_blocks.Lts as lts
-use Rattle.serializer.proofs.list.write_next.Reads as write-next-reads
 
 abbrev Inv-loop : tie.InvT-loop
 Inv-loop option ids freqs skips₀ postings₀ least₀ skips-at₀ postings-at₀ n₀ n-end skips postings least skips-at postings-at n =
@@ -51,8 +48,8 @@ module _ (c : tie.After-write-next Inv-loop μ-loop) where
   refuted : c .write-next .result ≡ NoRoom → ⊥
   refuted = not-refused _ _ _ _ _ (head .loop .inv .1) (c .before .before .before .loop-test .taken) (start .pre .1) (c .write-next .ensures)
 
-enum-known-s : tie.Need-enum-known-s Inv-loop μ-loop
-enum-known-s c = search needs
+enum-known-placed : tie.Need-enum-known-placed Inv-loop μ-loop
+enum-known-placed c = search needs
 
 enum-told : tie.Need-enum-told Inv-loop μ-loop
 enum-told c = search needs
@@ -90,7 +87,7 @@ loop-again : tie.Need-loop-again Inv-loop μ-loop
 loop-again c =
     let w = c .before .before .before .before .before .before .before .before in (
       omega arith,
-      written-next _ _ _ _ _ (head w .loop .inv .1) (w .before .before .before .loop-test .taken) (start w .pre .1) (w .write-next .ensures) (c .before .before .s .given .1),
+      written-next _ _ _ _ _ (head w .loop .inv .1) (w .before .before .before .loop-test .taken) (start w .pre .1) (w .write-next .ensures) (c .before .before .placed .given .1),
     )
 
 same-length-3 : tie.Need-same-length-3 Inv-loop μ-loop
@@ -111,7 +108,7 @@ write-blocks-spec =
     loop-holds
     mul-at
     write-next-requires
-    enum-known-s
+    enum-known-placed
     enum-told
     same-length
     same-length-2

@@ -1,7 +1,7 @@
 -- `serializer::list::write_checked` meets its contract: the sizes answer question 15 before a byte is written.
 -- Assumes nothing.
 use mathlib.Core.Path.{_≡_, sym, _∙_}
-use mathlib.Core.Bool.{true, false}
+use mathlib.Core.Bool.{true}
 use borrow.Author.Tests.{not-true, not-false}
 use denote.Ref.{now}
 use lib.ListN.{length}
@@ -11,13 +11,6 @@ use Rattle.serializer.proofs.Listing.{put-refused, blocks-fit, parts-th
 use borrow.Author.Needs.{needs}
 use Rattle.serializer.proofs.list.write_checked.Statement.{statement}
 use Rattle.serializer.proofs.list.write_checked.Tie as tie
-use Rattle.serializer.proofs.list.write_checked.Reads as reads
-use Rattle.serializer.proofs.list.write_checked.Lts as lts
-use Rattle.serializer.proofs.list.blocks_size.Reads as blocks-size-reads
-use Rattle.serializer.proofs.list.entries_size.Reads as entries-size-reads
-use Rattle.serializer.proofs.list.list_fits.Reads as list-fits-reads
-use Rattle.serializer.proofs.list.put_list.Reads as put-list-reads
-use Rattle.serializer.proofs.list.write_blocks.Reads as write-blocks-reads
 
 entries-size-requires : tie.Need-entries-size-requires
 entries-size-requires c κs = search needs

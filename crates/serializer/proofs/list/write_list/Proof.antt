@@ -1,24 +1,19 @@
 -- `serializer::list::write_list` meets its contract: the questions are asked in their order, and the first that is answered no refuses
 -- the list.
 -- Assumes nothing.
-use mathlib.Core.Path.{_≡_, sym, ap, _∙_}
+use mathlib.Core.Path.{_≡_}
 use Prim.Native.Nat.{ℕ}
 use denote.Ref.{now}
 use Rattle.format.specs.Accepted.{keptIn, takeDocs}
-use Rattle.format.specs.Basics.{Outcome, ok, refused}
+use Rattle.format.specs.Basics.{Outcome, ok}
 use Rattle.serializer.specs.declared.Answer.the-variants.{Bytes}
 use Rattle.serializer.specs.Calls.{answered}
-use Rattle.serializer.specs.Whole.{Checked}
 use Rattle.serializer.proofs.Checked.{taken-rises}
-use Rattle.serializer.proofs.Listing.{answered-refused, answered-ok, listed-refused, mode-unknown, lengths-differ, docs-refused, docs-taken, listed-put}
+use Rattle.serializer.proofs.Listing.{listed-refused, mode-unknown, lengths-differ, docs-refused, docs-taken, listed-put}
 use borrow.Author.Needs.{needs}
+use Rattle.serializer.proofs.Taken.{answered-bytes, answered-refused}
 use Rattle.serializer.proofs.list.write_list.Statement.{statement}
 use Rattle.serializer.proofs.list.write_list.Tie as tie
-use Rattle.serializer.proofs.list.write_list.Reads as reads
-use Rattle.serializer.proofs.list.write_list.Lts as lts
-use Rattle.serializer.proofs.list.check_docs.Reads as check-docs-reads
-use Rattle.serializer.proofs.list.write_checked.Reads as write-checked-reads
-use Rattle.skip.proofs.record_option.Reads as record-option-reads
 
 returns : tie.Need-returns
 returns c =
@@ -41,25 +36,23 @@ module _ (c : tie.After-check-docs) where
   abbrev start : tie.Start
   start = c .before .before .before .before .before .before .before .before .before
 
-  docs : Outcome ℕ
+  abbrev docs : Outcome ℕ
   docs = takeDocs (keptIn (start .args .mode) (start .args .recording)) 0 (now (start .args .ids)) (now (start .args .freqs))
 
   answer : c .check-docs .result ≡ answered (λ _. 0) docs
-  unfolding docs
   answer = rw (← c .before .record-option .ensures) (c .check-docs .ensures)
 
   taken : {n : ℕ} → c .check-docs .result ≡ Bytes n → (next : ℕ) × (docs ≡ ok next)
-  taken e = answered-ok (λ _. 0) docs (sym answer ∙ e)
+  taken e = answered-bytes (λ _. 0) docs answer e
 
 enum-known-checked : tie.Need-enum-known-checked
 enum-known-checked c = search needs
 
 returns-3 : tie.Need-returns-3
-unfolding docs
 returns-3 c =
     let checked = c .before .before .before in
     let a = start checked .args in
-    let refusal = answered-refused (λ _. 0) (docs checked) (sym (answer checked) ∙ c .before .checked .given .1) in
+    let refusal = answered-refused (λ _. 0) (docs checked) (answer checked) (c .before .checked .given .1) in
     listed-refused (a .mode) (a .recording) _ _ _ _ _
     (docs-refused _ _ _ _ _ _ _ (checked .before .before .before .if1 .left) (checked .before .before .if2 .left) refusal)
 
@@ -67,7 +60,6 @@ enum-told : tie.Need-enum-told
 enum-told c = search needs
 
 write-checked-requires : tie.Need-write-checked-requires
-unfolding docs
 write-checked-requires c κs =
     let told = c .before .before .before in
     let checked = told .before .before in
@@ -83,7 +75,6 @@ same-length-3 : tie.Need-same-length-3
 same-length-3 c = search needs
 
 returns-4 : tie.Need-returns-4
-unfolding docs
 returns-4 c =
     let wrote = c .before .before .before .before .before .before in
     let told = wrote .before .before .before .before in

@@ -1,6 +1,5 @@
 -- `serializer::list::write_next` meets its contract: the copies are the block's documents and frequencies.
 -- Assumes nothing.
-use mathlib.Core.Path.{_≡_}
 use borrow.Author.Needs.{needs}
 use Rattle.serializer.proofs.list.write_next.Statement.{statement}
 use Rattle.serializer.proofs.list.write_next.Tie as tie
