@@ -1,8 +1,8 @@
 -- The block that a walk by landings with target 0 holds is the one that the definitions read at its place, and the next landing
--- begins where they read on.
+-- begins where they read on. Where a landing is refused they read no more.
 -- Assumes nothing.
 use mathlib.Core.List.{List}
-use mathlib.Core.Path.{_≡_, sym, ap, _∙_}
+use mathlib.Core.Path.{_≡_, refl, sym, ap, _∙_}
 use Prim.Native.Nat.{ℕ, _+_, _≤_, _<_}
 use native.Mathlib.Decide.{decLe}
 use native.Mathlib.Omega.{arith}
@@ -12,20 +12,20 @@ use lib.Seq.{take-at}
 use Rattle.format.specs.declared.BlockInfo.{BlockInfo}
 use Rattle.format.specs.declared.Layout.{Layout}
 use Rattle.format.specs.declared.Term.{Term}
-use Rattle.format.specs.Basics.{ok, choose, TERMINATED}
+use Rattle.format.specs.Basics.{Outcome, ok, refused, andThen, choose, TERMINATED}
 use Rattle.format.specs.SkipEntry.{blockSize}
 use Rattle.format.specs.Layout.{fullBlocks, tailLength, skipBytes}
-use Rattle.format.specs.Reading.{Block, nothing, before}
-use Rattle.format.proofs.Outcome.{ok-same, andThen-ok}
+use Rattle.format.specs.Reading.{Block, Reading, nothing, before}
+use Rattle.format.proofs.Outcome.{refused≢ok, ok-same, andThen-ok, Numbered}
 use Rattle.format.proofs.SkipEntry.{entryFits-true}
-use Rattle.format.proofs.SoundBlock.{SoundBlock, fullBlock-sound, tailBlock-sound, entryBlock-read}
+use Rattle.format.proofs.SoundBlock.{SoundBlock, fullBlock-sound, tailBlock-sound, entryBlock-read, entryBlock-numbered, tailBlock-numbered}
 use Rattle.segment_postings.specs.declared.Found.{Found}
 use Rattle.segment_postings.specs.declared.Held.{Held}
 use Rattle.segment_postings.specs.declared.SegmentPostings.{SegmentPostings}
-use Rattle.segment_postings.specs.Cursor.{loadBlock, padded, holding, landing}
+use Rattle.segment_postings.specs.Cursor.{tailInfo, loadBlock, padded, holding, landing}
 use Rattle.segment_postings.specs.Calls.{cursorOf}
 use Rattle.segment_postings.specs.Passed.{docsIn}
-use Rattle.segment_postings.proofs.FoundBlock.{entryOf}
+use Rattle.segment_postings.proofs.FoundBlock.{entryOf, find-end}
 use Rattle.segment_postings.proofs.Questions.{load-full, load-tail}
 use Rattle.segment_postings.proofs.Turns.{landing-is}
 use Rattle.segment_postings.proofs.Walk.{loadedAt, loadedAt-found, readingAt, readingAt-entry, readingAt-tail, entry-same, found-entry, found-same}
@@ -80,6 +80,17 @@ held-of f unpacked block e =
 
 -- ---- the walk
 
+-- what is made of a block that was read asks no question
+loads-none : {A B C : Type 0} (o : Outcome A) (g : A → Outcome B) (k : A → B → C) {n : ℕ}
+    → andThen o (λ a. andThen (g a) λ b. ok (k a b)) ≡ refused n → andThen o g ≡ refused n
+unfolding andThen
+loads-none {B = B} {C = C} (ok a) g k {n} e = go (g a) e
+  where
+    go : (o : Outcome B) → andThen o (λ b. ok (k a b)) ≡ refused n → o ≡ refused n
+    go (ok b) h = absurd (refused≢ok (sym h))
+    go (refused m) h = cc
+loads-none (refused m) g k e = cc
+
 module _ (t : Term) (l : Layout) (bs : List ℕ) (b at least : ℕ) where
   abbrev entry : BlockInfo
   entry = entryOf (l .option) (skipBytes l bs) b
@@ -108,6 +119,30 @@ module _ (t : Term) (l : Layout) (bs : List ℕ) (b at least : ℕ) where
     | yes past ↦ rw (docs-in-tail t b past) (tailBlock-sound _ _ _ _ _ _ (sym (load-tail t l bs f (omega arith)) ∙ e) .sound)
     | no some ↦ rw (docs-in-full t b (omega arith)) (fullBlock-sound _ _ _ _ (sym (load-full t l bs f (omega arith)) ∙ e) .0 .sound)
   ]
+
+  -- ---- a landing that is refused
+
+  -- the number is a question's
+  block-numbered : Numbered (loadedAt t l bs b at least b)
+  block-numbered = elim (decLe (fullBlocks t) b) [
+    | yes past ↦
+        let f : Found = record { block = b; at = at; least = least; info = tailInfo; entries = b } in
+        let found = find-end (l .option) (skipBytes l bs) bs 0 (fullBlocks t) b at least b tailInfo past refl in
+        rw (loadedAt-found t l bs b at least b found, load-tail t l bs f past) (tailBlock-numbered _ _ _ _ _ _)
+    | no some ↦ rw (← entry-same t l bs b at least b (omega arith)) (entryBlock-numbered _ _ _ _ _)
+  ]
+
+  pub reads-none : {n : ℕ} → landing t bs l 0 b at least b b ≡ refused n → (readingAt t l bs b at least ≡ nothing n) × (0 < n)
+  unfolding before loadedAt
+  reads-none {n} e =
+      let none : loadedAt t l bs b at least b ≡ refused n = loads-none _ _ _ (sym (landing-is t bs l 0 b at least b b) ∙ e) in
+      let reads : readingAt t l bs b at least ≡ nothing n = elim (decLe (fullBlocks t) b) [
+        | yes past ↦ rw (readingAt-tail t l bs b at least b past, none)
+        | no some ↦ rw (readingAt-entry t l bs b at least b (omega arith), none)
+      ] in
+      (reads, rw none at block-numbered)
+
+  -- ---- the block that is held
 
   module _ {h : Held} {docs freqs : List ℕ} where
     pub block-held : at ≤ length bs → landing t bs l 0 b at least b b ≡ ok (cursorOf h docs freqs) → BlockHeld h docs freqs
@@ -144,3 +179,10 @@ module _ (t : Term) (l : Layout) (bs : List ℕ) (b at least : ℕ) where
 
       pub reads-last : fullBlocks t ≤ b → readingAt t l bs b at least ≡ (before (ok (k .block)) λ _. nothing 0)
       reads-last past = rw (readingAt-tail t l bs b at least b past, k .read)
+
+      -- whatever is read behind it
+      pub reads-first : (rest : Reading) × (readingAt t l bs b at least ≡ (before (ok (k .block)) λ _. rest))
+      reads-first = elim (decLe (fullBlocks t) b) [
+        | yes past ↦ (nothing 0, reads-last past)
+        | no some ↦ (_, reads-on (omega arith))
+      ]

@@ -7,6 +7,7 @@ pub mod Holds
 pub mod Landed
 pub mod Landing
 pub mod Lent
+pub mod Most
 pub mod Padded
 pub mod Parts
 pub mod Places
@@ -21,3 +22,5 @@ pub mod TotalWalk
 pub mod Turns
 pub mod Walk
 pub mod WalkShows
+pub mod WholeAsked
+pub mod WholeWalk
