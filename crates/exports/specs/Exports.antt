@@ -15,10 +15,14 @@ use Rattle.serializer.specs.declared.Step.{Step}
 use Rattle.serializer.specs.Writer.{Areas, after, taking, closing}
 use Rattle.serializer.specs.Calls.{answered, beginning, Listed}
 
--- a number of bytes, or 2 ^ 63 and a refusal's number above it
+-- a refusal's number above 2 ^ 63, which no count, rank or total reaches (proofs/ToldApart.antt)
+abbrev pub marked : ℕ → ℕ
+marked k = 2 ^ 63 + k
+
+-- a number of bytes, or a refusal's number with its mark
 unfoldable pub coded : Answer → ℕ
 coded (Bytes n) = n
-coded (Refused k) = 2 ^ 63 + k
+coded (Refused k) = marked k
 
 -- whether frequencies are recorded: 0 says no, any other number yes
 abbrev pub recorded : ℕ → Bool

@@ -1,5 +1,9 @@
 // The library for Rust and C: functions of plain numbers and slices. Each answers one number.
 
+mod mark;
+mod reading;
+
+use crate::mark::mark;
 use format::COUNT_MISMATCH;
 use serializer::Answer;
 use serializer::PostingsSerializer;
@@ -12,13 +16,13 @@ ghost use mathlib.Core.Path.{_≡_};
 ghost use lib.ListN.{length};
 ghost use Rattle.exports.specs.Exports.{coded, recorded, runDocs, endRun, docsLeft, ListCoded, Ran, Leaves, LeavesCoded};
 
-// A number of bytes as it is, and a refusal as 2 ^ 63 and its number.
+// A number of bytes as it is, and a refusal with its mark.
 fn code(answer: Answer) -> u64
     ensures { λ r. ⌜ r ≡ coded answer ⌝ }
 {
     match answer {
         Answer::Bytes(n) => n as u64,
-        Answer::Refused(n) => 0x8000000000000000 + n as u64,
+        Answer::Refused(n) => mark(n),
     }
 }
 

@@ -1,8 +1,8 @@
 -- The block that a walk by landings with target 0 holds is the one that the definitions read at its place, and the next landing
--- begins where they read on.
+-- begins where they read on. Where a landing is refused they read no more.
 -- Assumes nothing.
 use mathlib.Core.List.{List}
-use mathlib.Core.Path.{_≡_, sym, ap, _∙_}
+use mathlib.Core.Path.{_≡_, refl, sym, ap, _∙_}
 use Prim.Native.Nat.{ℕ, _+_, _≤_, _<_}
 use native.Mathlib.Decide.{decLe}
 use native.Mathlib.Omega.{arith}
@@ -15,7 +15,7 @@ use Rattle.format.specs.declared.Term.{Term}
 use Rattle.format.specs.Basics.{Outcome, ok, refused, andThen, choose, TERMINATED}
 use Rattle.format.specs.SkipEntry.{blockSize}
 use Rattle.format.specs.Layout.{fullBlocks, tailLength, skipBytes}
-use Rattle.format.specs.Reading.{Block, nothing, before}
+use Rattle.format.specs.Reading.{Block, Reading, nothing, before}
 use Rattle.format.proofs.Outcome.{refused≢ok, ok-same, andThen-ok}
 use Rattle.format.proofs.SkipEntry.{entryFits-true}
 use Rattle.format.proofs.SoundBlock.{SoundBlock, fullBlock-sound, tailBlock-sound, entryBlock-read}
@@ -167,3 +167,10 @@ module _ (t : Term) (l : Layout) (bs : List ℕ) (b at least : ℕ) where
 
       pub reads-last : fullBlocks t ≤ b → readingAt t l bs b at least ≡ (before (ok (k .block)) λ _. nothing 0)
       reads-last past = rw (readingAt-tail t l bs b at least b past, k .read)
+
+      -- whatever is read behind it
+      pub reads-first : (rest : Reading) × (readingAt t l bs b at least ≡ (before (ok (k .block)) λ _. rest))
+      reads-first = elim (decLe (fullBlocks t) b) [
+        | yes past ↦ (nothing 0, reads-last past)
+        | no some ↦ (_, reads-on (omega arith))
+      ]

@@ -8,6 +8,7 @@ pub mod Holds
 pub mod Landed
 pub mod Landing
 pub mod Lent
+pub mod Most
 pub mod Near
 pub mod Padded
 pub mod Parts
@@ -27,3 +28,5 @@ pub mod Walk
 pub mod WalkShows
 pub mod WalkStands
 pub mod WalkSteps
+pub mod WholeAsked
+pub mod WholeWalk

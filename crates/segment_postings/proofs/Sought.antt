@@ -138,7 +138,7 @@ module _ (mode count : ℕ) (bs : List ℕ) (target : ℕ) where
   abbrev term : Term
   term = record { mode = mode; requested = 0; count = count }
 
-  ranking-is : ranking mode count bs target
+  pub ranking-is : ranking mode count bs target
       ≡ (ask (leb target TERMINATED) targetTooLarge λ _.
       andThen (opening bs term) λ c.
       andThen (seeking c bs term target) λ d.

@@ -65,7 +65,7 @@ unfolding added
 added-twice m n (ok k) = ap (λ (x : ℕ). ok x) (sym (add-assoc m n k))
 added-twice m n (refused k) = refl
 
-totalIn-is : (target : ℕ) (r : Reading)
+pub totalIn-is : (target : ℕ) (r : Reading)
     → totalIn target r
     ≡ choose (or (ltb (countBelow target (docsOf (r .blocks))) (length (docsOf (r .blocks)))) (eqb (r .refusal) 0))
     (λ _. ok (sum (take (countBelow target (docsOf (r .blocks))) (freqsOf (r .blocks)))))

@@ -9,7 +9,6 @@ use mathlib.Core.Path.{_≡_, sym, ap, _∙_}
 use Prim.Native.Nat.{ℕ, _+_, _*_, _≤_, _<_}
 use native.Mathlib.Nat.{add-zero, eq-or-lt-of-le}
 use borrow.Author.Tests.{eqb-true, eqb-false}
-use native.Mathlib.Decide.{decLe}
 use native.Mathlib.Omega.{arith}
 use lib.Dec.{eqb}
 use lib.ListN.{length, take}
@@ -25,7 +24,7 @@ use Rattle.segment_postings.specs.declared.counts.Front.{Front}
 use Rattle.segment_postings.specs.declared.Held.{Held}
 use Rattle.segment_postings.specs.Cursor.{landing}
 use Rattle.segment_postings.specs.Passed.{docsIn, FrontOf}
-use Rattle.segment_postings.proofs.BlockHeld.{BlockHeld, landing-none, reads-on, reads-last}
+use Rattle.segment_postings.proofs.BlockHeld.{BlockHeld, landing-none, reads-first, reads-on, reads-last}
 use Rattle.segment_postings.proofs.Parts.{laid-out}
 use Rattle.segment_postings.proofs.TotalBlocks.{added, added-zero, added-twice, total-refused, total-ended, total-stops, total-passes}
 use Rattle.segment_postings.proofs.Walk.{readingAt, reading-whole}
@@ -74,21 +73,15 @@ module _ {t : Term} {l : Layout} {bs : List ℕ} {target b at least passed : ℕ
     same : length (k .block .docs) ≡ length (k .block .freqs)
     same = k .docs-many ∙ sym (k .freqs-many)
 
-    -- whatever is read behind it
-    reads : (rest : Reading) × (readingAt t l bs b at least ≡ (before (ok (k .block)) λ _. rest))
-    reads = elim (decLe (fullBlocks t) b) [
-      | yes past ↦ (nothing 0, reads-last t l bs b at least k past)
-      | no some ↦ (_, reads-on t l bs b at least k (omega arith))
-    ]
-
     pub walk-stops : r .whole ≡ false → totalIn target (reading t bs) ≡ ok (passed + r .freqs)
     unfolding added
     walk-stops short =
+        let behind = reads-first t l bs b at least k in
         let fewer : n < length (k .block .docs) =
         ⊎-elim (λ e. absurd (eqb-false _ _ (sym whole-is ∙ short) e)) (λ h. h) (eq-or-lt-of-le (count-le target (k .block .docs))) in
         w .total-is
-        ∙ ap (λ (x : Reading). added passed (totalIn target x)) (reads .1)
-        ∙ ap (λ (o : Outcome ℕ). added passed o) (total-stops target (k .block) (reads .0) same fewer)
+        ∙ ap (λ (x : Reading). added passed (totalIn target x)) (behind .1)
+        ∙ ap (λ (o : Outcome ℕ). added passed o) (total-stops target (k .block) (behind .0) same fewer)
         ∙ rw freqs-passed
 
     module _ (whole : r .whole ≡ true) where

@@ -1,4 +1,5 @@
 pub mod Calls
 pub mod Cursor
 pub mod Passed
+pub mod ReadWhole
 pub mod Taken

@@ -50,7 +50,7 @@ fn front_below(docs: &[u32], freqs: &[u32], target: u32) -> Front
 }
 
 // How many documents a block holds.
-fn docs_in(term: Term, block: usize) -> usize
+pub(crate) fn docs_in(term: Term, block: usize) -> usize
     ensures { λ r. ⌜ r ≡ docsIn term block ⌝ }
 {
     if block < full_blocks(term.count) {

@@ -12,6 +12,7 @@ mod load;
 mod seeks;
 mod segment_postings;
 pub mod validate;
+mod whole;
 
 pub use crate::counts::total;
 pub use crate::seeks::rank;
@@ -20,6 +21,7 @@ pub use crate::segment_postings::advance;
 pub use crate::segment_postings::doc;
 pub use crate::segment_postings::open;
 pub use crate::segment_postings::term_freq;
+pub use crate::whole::read;
 
 // A position in a list: the block that holds it, unpacked, and the place in that block. Places behind the last document of a list
 // hold TERMINATED and frequency 1. The image, its mode and its count are lent to each call and never kept.
