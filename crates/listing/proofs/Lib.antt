@@ -1,0 +1,9 @@
+pub mod Columns
+pub mod Decimal
+pub mod Example
+pub mod Lines
+pub mod Listed
+pub mod Numbers
+pub mod Putting
+pub mod Room
+pub mod Walked
