@@ -5,12 +5,16 @@
 //! files and crates that are not there. `rustfmt` is kept away from the sources, which it would
 //! otherwise follow and change.
 
+pub mod book;
+pub mod damage;
 pub mod images;
 #[cfg(feature = "linked")]
 pub mod linked;
 pub mod lists;
 pub mod oracle;
 mod postings;
+pub mod reader;
+pub mod reference;
 mod stubs;
 
 #[rustfmt::skip]

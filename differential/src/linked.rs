@@ -1,9 +1,11 @@
 //! The other side: the functions of the crate `exports`, from its static library.
 
 use crate::lists::List;
-
-/// A number, or the number of a refusal.
-pub type Answer = Result<u64, u64>;
+use crate::reader::Answer;
+#[cfg(feature = "linked-calls")]
+use crate::reader::Caller;
+#[cfg(feature = "linked-reading")]
+use crate::reader::{Image, Reader};
 
 fn answer(number: u64) -> Answer {
     match number.checked_sub(1 << 63) {
@@ -130,29 +132,76 @@ pub fn write_docs(list: &List, announced: u32, lent: &mut Lent) -> Answer {
     })
 }
 
-/// The same calls as `oracle::calls`, by value, on one cursor; five numbers for each answer, the
-/// opening's first. How many answers were written.
+/// The reading functions.
 #[cfg(feature = "linked-reading")]
-pub fn run_calls(
-    mode: u8,
-    requested: u8,
-    count: u32,
-    image: &[u8],
-    calls: &[u64],
-    answers: &mut [u64],
-) -> u64 {
-    // SAFETY: as above.
-    unsafe {
-        vilthorwy_run_calls(
-            mode,
-            requested,
-            count,
-            image.as_ptr(),
-            image.len(),
-            calls.as_ptr(),
-            calls.len(),
-            answers.as_mut_ptr(),
-            answers.len(),
-        )
+pub struct Library;
+
+#[cfg(feature = "linked-reading")]
+impl Reader for Library {
+    fn name(&self) -> &'static str {
+        "library"
+    }
+
+    fn validate(&self, image: &Image) -> u64 {
+        let bytes = &image.bytes;
+        // SAFETY: as above.
+        unsafe { vilthorwy_validate(image.mode, image.count, bytes.as_ptr(), bytes.len()) }
+    }
+
+    fn read(&self, image: &Image, requested: u8, docs: &mut [u32], freqs: &mut [u32]) -> Answer {
+        // SAFETY: as above.
+        answer(unsafe {
+            vilthorwy_read(
+                image.mode,
+                requested,
+                image.count,
+                image.bytes.as_ptr(),
+                image.bytes.len(),
+                docs.as_mut_ptr(),
+                docs.len(),
+                freqs.as_mut_ptr(),
+                freqs.len(),
+            )
+        })
+    }
+
+    fn rank(&self, image: &Image, target: u32) -> Answer {
+        let bytes = &image.bytes;
+        // SAFETY: as above.
+        answer(unsafe {
+            vilthorwy_rank(image.mode, image.count, bytes.as_ptr(), bytes.len(), target)
+        })
+    }
+
+    fn total(&self, image: &Image, target: u32) -> Answer {
+        let bytes = &image.bytes;
+        // SAFETY: as above.
+        answer(unsafe {
+            vilthorwy_total(image.mode, image.count, bytes.as_ptr(), bytes.len(), target)
+        })
+    }
+}
+
+#[cfg(feature = "linked-calls")]
+impl Caller for Library {
+    fn name(&self) -> &'static str {
+        "library"
+    }
+
+    fn run_calls(&self, image: &Image, requested: u8, calls: &[u64], answers: &mut [u64]) -> u64 {
+        // SAFETY: as above.
+        unsafe {
+            vilthorwy_run_calls(
+                image.mode,
+                requested,
+                image.count,
+                image.bytes.as_ptr(),
+                image.bytes.len(),
+                calls.as_ptr(),
+                calls.len(),
+                answers.as_mut_ptr(),
+                answers.len(),
+            )
+        }
     }
 }

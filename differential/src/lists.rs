@@ -195,6 +195,6 @@ pub fn smallest(mut list: List, fails: impl Fn(&List) -> bool) -> List {
 }
 
 /// The number, its half, and so on down to 1.
-fn halves(number: u32) -> impl Iterator<Item = u32> {
+pub(crate) fn halves(number: u32) -> impl Iterator<Item = u32> {
     std::iter::successors(Some(number), |number| Some(number / 2)).take_while(|number| *number > 0)
 }

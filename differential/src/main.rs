@@ -1,28 +1,97 @@
-//! Runs against the Rust. `differential [SEED]` prints how many cases were tried and ends with 0, or
-//! prints a smallest list that shows a difference and ends with 1.
+//! Runs against the Rust. `differential [SEED] [--long]` prints how many cases were tried and ends
+//! with 0, or prints a smallest input that shows a difference and ends with 1.
 //!
-//! Without the feature `linked` the Rust itself is tried: it must give document 01's worked bytes,
-//! read back what it wrote, and answer calls and ranks as 01's book says.
+//! Without a feature the Rust itself is tried, and the plain reading of `reference`: both must do
+//! what document 01 says of worked lists, and agree with each other and with 01's book.
 
+use std::env;
 use std::fmt::{self, Debug};
-use std::panic::{catch_unwind, AssertUnwindSafe};
 use std::process::ExitCode;
-use std::{env, panic};
 
-use differential::lists::{all_lists, documents, smallest, Form, List, Rng, Shape, FORMS};
+#[cfg(feature = "linked-reading")]
+use differential::linked::Library;
+use differential::reader::{Caller, Reader};
+use differential::reference::Reference;
 
+mod damaged;
+mod jobs;
 mod self_check;
+mod sound;
 #[cfg(feature = "linked")]
 mod writing;
 
 /// Nothing, or the difference.
 type Outcome = Result<(), String>;
 
+/// Those whose answers are compared.
+const READERS: &[&dyn Reader] = &[
+    #[cfg(feature = "linked-reading")]
+    &Library,
+    &Reference,
+];
+const CALLERS: &[&dyn Caller] = &[
+    #[cfg(feature = "linked-calls")]
+    &Library,
+    &Reference,
+];
+
+/// How much was tried.
+#[derive(Clone, Copy, Default)]
+struct Tally {
+    /// Lists, accepted or not.
+    written: u64,
+    /// Sound ones, each read whole in three requested modes.
+    images: u64,
+    /// Of ranks and totals.
+    targets: u64,
+    call_lists: u64,
+    calls: u64,
+    damaged: u64,
+    damaged_calls: u64,
+    /// Damaged images by the number that admission gives.
+    refused: [u64; 10],
+}
+
+impl Tally {
+    fn add(&mut self, other: &Tally) {
+        self.written += other.written;
+        self.images += other.images;
+        self.targets += other.targets;
+        self.call_lists += other.call_lists;
+        self.calls += other.calls;
+        self.damaged += other.damaged;
+        self.damaged_calls += other.damaged_calls;
+        for (number, refused) in self.refused.iter_mut().zip(other.refused) {
+            *number += refused;
+        }
+    }
+}
+
+impl fmt::Display for Tally {
+    fn fmt(&self, f: &mut fmt::Formatter) -> fmt::Result {
+        writeln!(f, "  {} lists written", self.written)?;
+        writeln!(f, "  {} sound images read, {} targets ranked", self.images, self.targets)?;
+        writeln!(f, "  {} lists of {} calls", self.call_lists, self.calls)?;
+        write!(f, "  {} damaged images with {} calls;", self.damaged, self.damaged_calls)?;
+        for (number, refused) in self.refused.iter().enumerate() {
+            write!(f, " {refused} are {number}{}", if number < 9 { "," } else { "" })?;
+        }
+        Ok(())
+    }
+}
+
 fn main() -> ExitCode {
-    let seed = env::args().nth(1).map_or(1, |word| word.parse().expect("SEED is a number"));
-    let mut runs = Runs { cases: 0, rng: Rng::new(seed) };
-    let outcome = runs.all();
-    println!("seed {seed}: {} cases", runs.cases);
+    let mut seed = 1;
+    let mut long = false;
+    for word in env::args().skip(1) {
+        match word.as_str() {
+            "--long" => long = true,
+            word => seed = word.parse().expect("SEED is a number"),
+        }
+    }
+    println!("seed {seed}{}", if long { ", long" } else { "" });
+    let (tally, outcome) = jobs::run(seed, long);
+    println!("cases:\n{tally}");
     match outcome {
         Ok(()) => {
             println!("no difference");
@@ -49,76 +118,5 @@ struct Bytes<'a>(&'a [u8]);
 impl Debug for Bytes<'_> {
     fn fmt(&self, f: &mut fmt::Formatter) -> fmt::Result {
         self.0.iter().try_for_each(|byte| write!(f, "{byte:02X} "))
-    }
-}
-
-struct Runs {
-    cases: u64,
-    rng: Rng,
-}
-
-impl Runs {
-    fn all(&mut self) -> Outcome {
-        self_check::worked_lists()?;
-        #[cfg(feature = "linked")]
-        writing::check_beginning()?;
-        for form in FORMS {
-            let above = |list: &List| list.ids.last().map_or(0, |last| last + 1);
-            for list in all_lists(form, |list| documents(above(list)..6, &[1, 2, 3])) {
-                self.accepted(&list)?;
-            }
-            #[cfg(feature = "linked")]
-            for list in writing::short_lists(form) {
-                self.check(&list, writing::check)?;
-            }
-        }
-        let around = (5..=8).flat_map(|blocks| 128 * blocks - 2..=128 * blocks + 2);
-        for count in (0..=520).chain(around).chain([1100]) {
-            for form in FORMS {
-                self.random_lists(form, count)?;
-            }
-        }
-        Ok(())
-    }
-
-    fn random_lists(&mut self, form: Form, count: usize) -> Outcome {
-        let shapes = Shape::several(&mut self.rng);
-        for shape in &shapes {
-            let list = shape.list(&mut self.rng, form, count);
-            self.accepted(&list)?;
-        }
-        #[cfg(feature = "linked")]
-        for place in 0..count {
-            let shape = shapes[place % shapes.len()];
-            let list = shape.list(&mut self.rng, form, count);
-            for list in writing::spoiled(&list, place) {
-                self.check(&list, writing::check)?;
-            }
-        }
-        Ok(())
-    }
-
-    fn accepted(&mut self, list: &List) -> Outcome {
-        let seed = self.rng.draw();
-        self.check(list, |list| self_check::reads_back(list, &mut Rng::new(seed)))?;
-        #[cfg(feature = "linked")]
-        self.check(list, writing::check)?;
-        Ok(())
-    }
-
-    /// A difference is told of the smallest list that can be found from this one.
-    fn check(&mut self, list: &List, check: impl Fn(&List) -> Outcome) -> Outcome {
-        self.cases += 1;
-        // A panic is a difference as well.
-        let check = |list: &List| {
-            catch_unwind(AssertUnwindSafe(|| check(list))).unwrap_or_else(|_| Err("panic".into()))
-        };
-        if check(list).is_ok() {
-            return Ok(());
-        }
-        // Where it panicked has been told; those of smaller lists need not be.
-        panic::set_hook(Box::new(|_| {}));
-        let list = smallest(list.clone(), |list| check(list).is_err());
-        check(&list).map_err(|difference| format!("{difference}\n  of {list}"))
     }
 }

@@ -1,10 +1,10 @@
 //! The Rust beside document 01: does the code over the shims do what 01 says of it?
 
-use differential::images::odd_image;
-use differential::lists::{List, Rng};
-use differential::oracle::{self, Call, TERMINATED};
+use differential::lists::List;
+use differential::oracle::{self, Opener, TERMINATED};
+use differential::reader::Image;
 
-use crate::{equal, Bytes, Outcome};
+use crate::{equal, Bytes, Outcome, READERS};
 
 /// 01's worked lists: mode, ids, frequencies, and the bytes of the recorded list.
 pub fn worked_lists() -> Outcome {
@@ -32,73 +32,60 @@ pub fn worked_lists() -> Outcome {
         equal(|| format!("worked list, mode {mode}, ids {ids:?}"), Bytes(&found), Bytes(&wanted))?;
     }
     // The first four bytes of 3, 7, 300 are the list without its frequencies.
-    let found = oracle::read(1, 1, 3, &[0x83, 0x84, 0x25, 0x82]);
-    equal(|| "worked list without frequencies".into(), found, (vec![3, 7, 300], ones(3)))
+    let image = Image { mode: 1, count: 3, bytes: vec![0x83, 0x84, 0x25, 0x82] };
+    let found = Opener::new(&image).read(1);
+    equal(|| "worked list without frequencies".into(), found, vec![(3, 1), (7, 1), (300, 1)])
 }
 
-/// An accepted list: written, it reads back as itself, also from other images of it.
-pub fn reads_back(list: &List, rng: &mut Rng) -> Outcome {
+/// An accepted list: what a cleared serializer writes is what a new one writes.
+pub fn two_terms(list: &List) -> Outcome {
     let image = oracle::write(list.mode, list.record, &list.ids, &list.freqs);
     let twice = oracle::write_terms(list.mode, &[list.clone(), list.clone()]);
-    equal(|| "two terms of one field".into(), Bytes(&twice), Bytes(&image.repeat(2)))?;
-    is_image(list, &image, rng)?;
-    is_image(list, &odd_image(list, rng), rng)
+    equal(|| "two terms of one field".into(), Bytes(&twice), Bytes(&image.repeat(2)))
 }
 
-/// Documents, frequencies, answers and ranks are those of the list.
-fn is_image(list: &List, image: &[u8], rng: &mut Rng) -> Outcome {
-    let (mode, ids, count) = (list.mode, &list.ids, list.ids.len() as u32);
-    let (calls, bytes) = (some_calls(rng, ids), Bytes(image));
-    for requested in 0..3 {
-        let freqs = list.freqs_read(requested);
-        let found = oracle::calls(mode, requested, count, image, &calls);
-        let wanted = book(ids, &freqs, &calls);
-        equal(|| format!("requested {requested}, {calls:?} of {bytes:?}"), found, wanted)?;
-        let found = oracle::read(mode, requested, count, image);
-        let wanted = (ids.clone(), freqs);
-        equal(|| format!("requested {requested}, all of {bytes:?}"), found, wanted)?;
-    }
-    for call in [Call::Seek(0), Call::Seek(TERMINATED)].iter().chain(&calls) {
-        if let Call::Seek(target) = *call {
-            let below = ids.partition_point(|id| *id < target) as u32;
-            let found = oracle::rank(mode, count, image, target);
-            equal(|| format!("rank of {target} in {bytes:?}"), found, below)?;
+/// Images that document 01, and what was decided of its open points, name with their number.
+pub fn worked_refusals() -> Outcome {
+    let block = "7F 00 00 00 40";
+    let cases = [
+        (0, 0, "", 0),
+        (0, 0, "80", 9),
+        (1, 0, "00", 9),
+        (2, 0, "", 1),
+        (0, 2147483648, "", 2),
+        (0, 1, "01 00 00 00 00 80", 8),
+        (0, 1, "00 00 00 00 90", 8),
+        (0, 2, "80 80", 6),
+        (0, 1, "7F 7F 7F 7F 87", 6),
+        (0, 1, "7E 7F 7F 7F 87", 0),
+        (0, 1, "80 00", 9),
+        (0, 3, "81 80 01", 8),
+        (1, 2, "81 80 01", 6),
+        (1, 1, "80 80", 7),
+        (1, 3, "83 84 25 82", 0),
+        (1, 3, "83 84 25 82 81 82", 8),
+        (0, 128, &format!("85 {block}"), 0),
+        (1, 128, &format!("85 {block}"), 0),
+        (1, 128, &format!("88 {block} 00 00 00"), 0),
+        (0, 128, &format!("85 {block} 00"), 9),
+        (0, 128, &format!("86 {block} 00"), 4),
+        (0, 128, "", 3),
+        (0, 128, "85 7F", 3),
+        (0, 128, "85 80 00 00 00 40", 6),
+        (0, 128, "85 FF FF FF 7F 40", 5),
+        (1, 128, &format!("88 {block} 21 00 00"), 5),
+        (1, 129, &format!("88 {block} 00 00 00 81"), 8),
+        (0, 129, &format!("85 {block} 80"), 6),
+        (0, 256, "8A 7F 00 00 00 40 7F 00 00 00 40", 5),
+    ];
+    for (mode, count, bytes, number) in cases {
+        let byte = |word| u8::from_str_radix(word, 16).unwrap();
+        let bytes = bytes.split_whitespace().map(byte).collect();
+        let image = Image { mode, count, bytes };
+        for reader in READERS {
+            let name = reader.name();
+            equal(|| format!("{name}, validate\n  of {image}"), reader.validate(&image), number)?;
         }
     }
     Ok(())
-}
-
-/// 01's book: a position over the documents, opening's answer first.
-fn book(ids: &[u32], freqs: &[u32], calls: &[Call]) -> Vec<(u32, u32)> {
-    let end = ids.len();
-    let answer = |at: usize| if at < end { (ids[at], freqs[at]) } else { (TERMINATED, 0) };
-    let mut position = 0;
-    let mut answers = vec![answer(position)];
-    for call in calls {
-        match *call {
-            Call::Step => position = end.min(position + 1),
-            Call::Seek(target) => {
-                while position < end && ids[position] < target {
-                    position += 1;
-                }
-            }
-        }
-        answers.push(answer(position));
-    }
-    answers
-}
-
-/// Steps, and seeks close to documents that lie further and further on, some of them backward.
-fn some_calls(rng: &mut Rng, ids: &[u32]) -> Vec<Call> {
-    let mut place = 0;
-    let mut call = || {
-        if rng.below(3) == 0 {
-            return Call::Step;
-        }
-        place += rng.below(ids.len() as u64 / 8 + 2);
-        let back = if rng.below(4) == 0 { rng.below(place + 1) } else { 0 };
-        let near = ids.get((place - back) as usize).map_or(TERMINATED, |id| *id);
-        Call::Seek((near + rng.below(3) as u32).saturating_sub(1).min(TERMINATED))
-    };
-    (0..20).map(|_| call()).collect()
 }

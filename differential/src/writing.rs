@@ -1,6 +1,8 @@
 //! The writing runs: what `exports` writes and refuses, beside the Rust's bytes and document 01's
 //! numbers.
 
+use std::sync::LazyLock;
+
 use differential::linked::{write_docs, write_list, Lent};
 use differential::lists::{all_lists, documents, Form, List};
 use differential::oracle::{self, TERMINATED};
@@ -15,15 +17,17 @@ enum By {
 }
 
 /// A list of as many ids as frequencies: written as the Rust writes it, or refused for its first
-/// bad document.
-pub fn check(list: &List) -> Outcome {
+/// bad document. That is asked of single documents too, if told so: it takes some time.
+pub fn check(list: &List, single: bool) -> Outcome {
     match refusal(list) {
         None => accepted(list),
         Some(number) => {
             let (count, blocks) = (list.ids.len(), list.ids.len() / 128);
             let ample = [8 * blocks, 1008 * blocks, 1016 * blocks + 10 * count + 10];
             run(By::List, list, ample, Err(number))?;
-            run(By::Docs(count as u32), list, ample, Err(number))?;
+            if single {
+                run(By::Docs(count as u32), list, ample, Err(number))?;
+            }
             // A whole list meets the lack of room last.
             run(By::List, list, [0; 3], Err(number))
         }
@@ -130,32 +134,35 @@ fn areas<'a>(list: &List, image: &'a [u8]) -> (&'a [u8], &'a [u8]) {
 }
 
 /// Wanted are skip entries, packed blocks and image at the start of the three buffers, or the
-/// refusal.
+/// refusal. What lies behind must stay.
 fn run(by: By, list: &List, lengths: [usize; 3], wanted: Result<[&[u8]; 3], u64>) -> Outcome {
-    let mut found = lent([&[]; 3], lengths);
+    let [skips, postings, output] = lengths.map(|length| unwritten(length).to_vec());
+    let mut lent = Lent { skips, postings, output };
     let answer = match by {
-        By::List => write_list(list, &mut found),
-        By::Docs(announced) => write_docs(list, announced, &mut found),
+        By::List => write_list(list, &mut lent),
+        By::Docs(announced) => write_docs(list, announced, &mut lent),
     };
-    let mut after = lent(wanted.unwrap_or_default(), lengths);
-    // Blocks that single documents finished before the refused call stay in the areas.
-    if matches!((by, wanted), (By::Docs(_), Err(_))) {
-        after.skips.clone_from(&found.skips);
-        after.postings.clone_from(&found.postings);
-    }
     let what = |part| format!("{by:?} into {lengths:?} bytes, {part}");
     equal(|| what("answer"), answer, wanted.map(|[.., image]| image.len() as u64))?;
-    equal(|| what("skips"), Bytes(&found.skips), Bytes(&after.skips))?;
-    equal(|| what("postings"), Bytes(&found.postings), Bytes(&after.postings))?;
-    equal(|| what("output"), Bytes(&found.output), Bytes(&after.output))
+    let holds = |part, found: &[u8], written: &[u8]| {
+        let rest = &unwritten(found.len())[written.len()..];
+        let (front, behind) = found.split_at(written.len());
+        equal(|| what(part), Bytes(front), Bytes(written))?;
+        equal(|| format!("{} behind", what(part)), Bytes(behind), Bytes(rest))
+    };
+    let [skips, postings, output] = wanted.unwrap_or_default();
+    holds("output", &lent.output, output)?;
+    // Blocks that single documents finished before the refused call stay in the areas.
+    if matches!((by, wanted), (By::Docs(_), Err(_))) {
+        return Ok(());
+    }
+    holds("skips", &lent.skips, skips)?;
+    holds("postings", &lent.postings, postings)
 }
 
-/// Buffers with these contents in front, and behind them bytes that differ and must stay.
-fn lent(contents: [&[u8]; 3], lengths: [usize; 3]) -> Lent {
-    let [skips, postings, output] = [0, 1, 2].map(|which| {
-        let mut bytes: Vec<u8> = (0..lengths[which]).map(|i| (89 * i + 171) as u8).collect();
-        bytes[..contents[which].len()].copy_from_slice(contents[which]);
-        bytes
-    });
-    Lent { skips, postings, output }
+/// What a buffer holds before it is lent: bytes that differ from one to the next.
+fn unwritten(length: usize) -> &'static [u8] {
+    static BYTES: LazyLock<Vec<u8>> =
+        LazyLock::new(|| (0..1 << 18).map(|i| (89 * i + 171) as u8).collect());
+    &BYTES[..length]
 }

@@ -1,10 +1,17 @@
-//! Times for writing 4,000,000 documents and for 100,000 rising seeks over them, frequencies
-//! included: the Rust's and, where it is linked, the library's.
+//! Times for writing 4,000,000 documents, for reading them all and for 100,000 rising seeks over
+//! them, frequencies included: the Rust's and, where it is linked, the library's.
 
 use std::time::Instant;
 
+#[cfg(feature = "linked-reading")]
+use differential::linked::Library;
 use differential::lists::{List, Rng};
-use differential::oracle::{self, Call, FileSlice};
+use differential::oracle::{self, Opener};
+#[cfg(feature = "linked-calls")]
+use differential::reader::Caller;
+#[cfg(feature = "linked-reading")]
+use differential::reader::Reader;
+use differential::reader::{Image, ANSWER};
 
 const SEED: u64 = 1;
 const DOCUMENTS: usize = 4_000_000;
@@ -16,12 +23,15 @@ fn main() {
     let list = list(&mut rng);
     let last = list.ids[DOCUMENTS - 1];
     println!("seed {SEED}: {DOCUMENTS} documents, last id {last}");
-    let image = write(&list);
+    let image = Image { mode: 1, count: DOCUMENTS as u32, bytes: write(&list) };
+    // Opening is timed, the Rust's own copy of the image is not.
+    let opener = Opener::new(&image);
+    read(&list, &image, &opener);
     // One target in each of as many equal stretches.
     let stretch = last / SEEKS as u32;
     let target = |i: usize| i as u32 * stretch + rng.below(stretch.into()) as u32;
     let targets: Vec<u32> = (0..SEEKS).map(target).collect();
-    seek(&image, &targets);
+    seek(&image, &opener, &targets);
 }
 
 /// Gaps of 1 to 19 and frequencies of 1 to 10, recorded.
@@ -39,7 +49,7 @@ fn write(list: &List) -> Vec<u8> {
     let mut image = Vec::new();
     let mut rust = || image = oracle::write(list.mode, list.record, &list.ids, &list.freqs);
     #[cfg(not(feature = "linked"))]
-    report("document written", DOCUMENTS, &mut [&mut rust]);
+    report("document written", DOCUMENTS, &mut [("Rust", &mut rust)]);
     #[cfg(feature = "linked")]
     {
         use differential::linked::{write_list, Lent};
@@ -47,48 +57,90 @@ fn write(list: &List) -> Vec<u8> {
         let mut lent = Lent { skips, postings, output };
         let mut length = 0;
         let mut library = || length = write_list(list, &mut lent).unwrap() as usize;
-        report("document written", DOCUMENTS, &mut [&mut rust, &mut library]);
+        let sides: &mut [Side] = &mut [("Rust", &mut rust), ("library", &mut library)];
+        report("document written", DOCUMENTS, sides);
         assert!(lent.output[..length] == image, "the images differ");
     }
     image
 }
 
-fn seek(image: &[u8], targets: &[u32]) {
-    // Opening is timed, the copy of the image is not.
-    let file = FileSlice::from(image);
-    let calls: Vec<Call> = targets.iter().map(|target| Call::Seek(*target)).collect();
-    let mut answers = Vec::new();
-    let mut rust = || answers = oracle::calls(1, 1, DOCUMENTS as u32, file.clone(), &calls);
+/// All documents with their frequencies, into two slices.
+#[cfg_attr(not(feature = "linked-reading"), allow(unused_variables))]
+fn read(list: &List, image: &Image, opener: &Opener) {
+    let [mut docs, mut freqs] = [(); 2].map(|_| vec![0; DOCUMENTS]);
+    let mut rust = || opener.read_into(1, &mut docs, &mut freqs);
     #[cfg(not(feature = "linked-reading"))]
-    report("seek", SEEKS, &mut [&mut rust]);
+    report("document read", DOCUMENTS, &mut [("Rust", &mut rust)]);
     #[cfg(feature = "linked-reading")]
     {
-        use differential::linked::run_calls;
-        // Kind 1, a seek by value.
-        let calls: Vec<u64> = targets.iter().map(|target| 1 << 32 | u64::from(*target)).collect();
-        let mut found = vec![0; 5 * (1 + SEEKS)];
+        let [mut found_docs, mut found_freqs] = [(); 2].map(|_| vec![0; DOCUMENTS]);
         let mut library = || {
-            run_calls(1, 1, DOCUMENTS as u32, image, &calls, &mut found);
+            Library.read(image, 1, &mut found_docs, &mut found_freqs).unwrap();
         };
-        report("seek", SEEKS, &mut [&mut rust, &mut library]);
-        let found = found.chunks(5).map(|answer| (answer[1] as u32, answer[2] as u32));
-        assert!(found.eq(answers), "the answers differ");
+        // It asks all questions of an image before it writes anything; the Rust asks none.
+        let mut validate = || assert_eq!(Library.validate(image), 0);
+        let sides: &mut [Side] = &mut [
+            ("Rust", &mut rust),
+            ("library", &mut library),
+            ("the library's validation alone", &mut validate),
+        ];
+        report("document read", DOCUMENTS, sides);
+        assert!((&found_docs, &found_freqs) == (&docs, &freqs), "the documents differ");
+    }
+    assert!((&docs, &freqs) == (&list.ids, &list.freqs), "the documents differ");
+}
+
+/// Both sides take the same calls and fill the same answers, five numbers each, of which the Rust
+/// knows document and frequency.
+#[cfg_attr(not(feature = "linked-calls"), allow(unused_variables))]
+fn seek(image: &Image, opener: &Opener, targets: &[u32]) {
+    let seeks = |kind: u64| -> Vec<u64> {
+        targets.iter().map(|target| kind << 32 | u64::from(*target)).collect()
+    };
+    let by_value = seeks(1);
+    let mut answers = vec![0; ANSWER * (1 + SEEKS)];
+    let mut rust = || opener.run_calls(1, &by_value, &mut answers);
+    #[cfg(not(feature = "linked-calls"))]
+    report("seek", SEEKS, &mut [("Rust", &mut rust)]);
+    #[cfg(feature = "linked-calls")]
+    {
+        let lent = seeks(3);
+        let [mut found, mut found_lent] = [(); 2].map(|_| vec![0; ANSWER * (1 + SEEKS)]);
+        let mut library = || {
+            Library.run_calls(image, 1, &by_value, &mut found);
+        };
+        let mut library_lent = || {
+            Library.run_calls(image, 1, &lent, &mut found_lent);
+        };
+        let sides: &mut [Side] = &mut [
+            ("Rust", &mut rust),
+            ("library by value", &mut library),
+            ("on a lent cursor", &mut library_lent),
+        ];
+        report("seek", SEEKS, sides);
+        for found in [&found, &found_lent] {
+            for (found, wanted) in found.chunks(ANSWER).zip(answers.chunks(ANSWER)) {
+                assert!(found[..3] == wanted[..3], "the answers differ");
+            }
+        }
     }
 }
 
+type Side<'a> = (&'a str, &'a mut dyn FnMut());
+
 /// The sides take turns, and the best of several runs counts. The Rust comes first.
-fn report(what: &str, count: usize, sides: &mut [&mut dyn FnMut()]) {
+fn report(what: &str, count: usize, sides: &mut [Side]) {
     let mut best = vec![f64::INFINITY; sides.len()];
     for _ in 0..RUNS {
-        for (side, best) in sides.iter_mut().zip(&mut best) {
+        for ((_, side), best) in sides.iter_mut().zip(&mut best) {
             let start = Instant::now();
             side();
             *best = best.min(start.elapsed().as_nanos() as f64 / count as f64);
         }
     }
     print!("a {what}: Rust {:.2} ns", best[0]);
-    if let Some(library) = best.get(1) {
-        print!(", library {library:.2} ns, ratio {:.2}", library / best[0]);
+    for ((name, _), time) in sides.iter().zip(&best).skip(1) {
+        print!("; {name} {time:.2} ns, ratio {:.2}", time / best[0]);
     }
     println!();
 }
