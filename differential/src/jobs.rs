@@ -28,8 +28,8 @@ enum Job {
     Short(Form),
     /// Every short list of calls.
     ShortCalls(Form),
-    /// Lists of this count, written; then spoiled at every place, or at every so many.
-    Write(Form, usize, usize),
+    /// Lists of this count, written; then spoiled at every place.
+    Write(Form, usize),
     /// Lists of this count, read, with calls.
     Read(Form, usize),
     /// Every small change of a small image.
@@ -74,8 +74,7 @@ fn jobs(long: bool) -> Vec<Job> {
         (long || close(count)).then_some(Job::Read(form, count))
     });
     of_each_count(&mut jobs, &|form, count| {
-        let every = if long || close(count) { 1 } else { 8 };
-        (every == 1 || count <= 520).then_some(Job::Write(form, count, every))
+        (long || close(count) || count <= 520).then_some(Job::Write(form, count))
     });
     jobs
 }
@@ -140,7 +139,7 @@ impl Run {
             Job::Worked => self.worked(),
             Job::Short(form) => self.short(form),
             Job::ShortCalls(form) => self.short_calls(form),
-            Job::Write(form, count, every) => self.write(form, count, every),
+            Job::Write(form, count) => self.write(form, count),
             Job::Read(form, count) => self.read(form, count),
             Job::Change(form, count) => self.change(form, count),
             Job::Spoil => self.spoil(),
@@ -212,14 +211,14 @@ impl Run {
     }
 
     #[cfg_attr(not(feature = "linked"), allow(unused_variables))]
-    fn write(&mut self, form: Form, count: usize, every: usize) -> Outcome {
+    fn write(&mut self, form: Form, count: usize) -> Outcome {
         let shapes = Shape::several(&mut self.rng);
         for shape in &shapes {
             let list = shape.list(&mut self.rng, form, count);
             self.accepted(&list)?;
         }
         #[cfg(feature = "linked")]
-        for place in (self.rng.below(every as u64) as usize..count).step_by(every) {
+        for place in 0..count {
             let shape = shapes[place % shapes.len()];
             let list = shape.list(&mut self.rng, form, count);
             for (way, list) in writing::spoiled(&list, place).iter().enumerate() {
