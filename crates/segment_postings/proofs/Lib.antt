@@ -19,5 +19,6 @@ pub mod Taking
 pub mod TotalBlocks
 pub mod TotalWalk
 pub mod Turns
+pub mod Types
 pub mod Walk
 pub mod WalkShows
