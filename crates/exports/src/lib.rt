@@ -1,5 +1,6 @@
 // The library for Rust and C: functions of plain numbers and slices. Each answers one number.
 
+mod calls;
 mod mark;
 mod reading;
 

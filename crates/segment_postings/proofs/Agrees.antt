@@ -13,20 +13,14 @@ use Rattle.format.specs.declared.Term.{Term}
 use Rattle.format.specs.Basics.{ok}
 use Rattle.format.specs.Layout.{fullBlocks}
 use Rattle.format.specs.Reading.{reading, docsOf, freqsOf}
-use Rattle.format.specs.Model.{Answer as Shown, at, refused, Call, step, State, opened, after, here, entriesRead}
+use Rattle.format.specs.Model.{Call, step, State, opened, after, here, entriesRead}
 use Rattle.format.proofs.Blocks.{docs-many}
 use Rattle.format.proofs.Sound.{Sound, sound-blocks, whole-count}
 use Rattle.format.proofs.Visited.{Tracked, blockOf, opened-tracked, after-tracked, after-grown, step-goes}
-use Rattle.segment_postings.specs.declared.Answer.{Answer}
-use Rattle.segment_postings.specs.declared.Answer.the-variants.{At, Refused}
 use Rattle.segment_postings.specs.declared.SegmentPostings.{SegmentPostings}
 use Rattle.segment_postings.specs.Cursor.{position, answerAt, opening, stepping}
+use Rattle.segment_postings.specs.Called.{shown}
 use Rattle.segment_postings.proofs.Holds.{Holds, MovesTo, opening-landed, landed-there, stepping-steps, answer-holds}
-
--- what the model says of an answer: document, frequency and blocks unpacked
-unfoldable pub shown : Answer → Shown
-shown (At doc freq unpacked entries) = at doc freq unpacked
-shown (Refused n) = refused n
 
 pub record Agrees {t : Term} {bs : List ℕ} (s : Sound t bs) (c : SegmentPostings) (m : State) : Type 0 where
   pub holds : Holds s c

@@ -2,55 +2,35 @@
 -- model answers, and leaves the cursor at the model's position with as many blocks counted as the model has visited. By induction on
 -- the calls: each leaves cursor and model together, a refused one both as they were.
 -- Assumes nothing.
-use mathlib.Core.List.{List, [], _∷_, map}
+use mathlib.Core.List.{List, [], _∷_, _++_, map}
 use mathlib.Core.Logic.{⊎-elim}
-use mathlib.Core.Path.{_≡_, refl, ap₂}
+use mathlib.Core.Path.{_≡_, refl, ap₂, _∙_}
 use Prim.Native.Nat.{ℕ, _≤_, _<_}
 use native.Mathlib.Nat.{eq-or-lt-of-le}
 use native.Mathlib.Decide.{decLe}
 use native.Mathlib.Omega.{arith}
 use borrow.Author.Tests.{le-leb, lt-leb, eq-eqb, ne-eqb}
-use lib.ListN.{length}
+use lib.Dec.{eqb}
+use lib.ListN.{length, getD}
 use Rattle.format.specs.declared.Term.{Term}
-use Rattle.format.specs.Basics.{refused, choose, TERMINATED}
+use Rattle.format.specs.Basics.{Outcome, ok, refused, choose, TERMINATED}
 use Rattle.format.specs.Refusal.{targetTooLarge}
 use Rattle.format.specs.Reading.{reading, docsOf, freqsOf}
 use Rattle.format.specs.Model.{Call, step, seek, State, after, here, answer, answersFrom, answers, afterAll, entriesRead}
 use Rattle.format.specs.Model as model
 use Rattle.format.proofs.Sound.{Sound, sound-image}
+use Rattle.format.proofs.Choice.{choose-elim}
 use Rattle.format.proofs.Visited.{seek-stands}
 use Rattle.segment_postings.specs.declared.Answer.{Answer}
-use Rattle.segment_postings.specs.declared.Answer.the-variants.{Refused}
+use Rattle.segment_postings.specs.declared.Answer.the-variants.{At, Refused}
 use Rattle.segment_postings.specs.declared.Moved.{Moved}
 use Rattle.segment_postings.specs.declared.SegmentPostings.{SegmentPostings}
-use Rattle.segment_postings.specs.Cursor.{position, moved, opened, stepping, advanced, seeking, sought}
+use Rattle.segment_postings.specs.Cursor.{position, answerAt, moved, opened, stepping, advanced, seeking, sought}
+use Rattle.segment_postings.specs.Called.{shown, called, callsFrom, calls, cursorAfter}
+use Rattle.segment_postings.specs.Called.{numbers, allNumbers, shownNumbers, positionsFrom, positions, modelNumbers}
 use Rattle.segment_postings.proofs.Turns.{moved-ok, opened-is}
-use Rattle.segment_postings.proofs.Agrees.{shown, Agrees, docs-count, entries-read, opening-agrees, answer-agrees, stepping-agrees}
+use Rattle.segment_postings.proofs.Agrees.{Agrees, docs-count, entries-read, opening-agrees, answer-agrees, stepping-agrees}
 use Rattle.segment_postings.proofs.SeekAgrees.{seeking-end, seeking-refused, seeking-agrees}
-
--- ---- a list of calls on the cursor
-
-unfoldable pub called : SegmentPostings → List ℕ → Term → Call → Moved
-unfolding advanced sought
-called c bs t step = advanced c bs t
-called c bs t (seek target) = sought c bs t target
-
--- each call gets the cursor as the last one left it
-unfoldable pub callsFrom : List ℕ → Term → SegmentPostings → List Call → List Answer
-unfolding called
-callsFrom bs t c [] = []
-callsFrom bs t c (call ∷ cs) = let m : Moved = called c bs t call in m .answer ∷ callsFrom bs t (m .cursor) cs
-
--- what opening and then the calls answer
-unfoldable pub calls : List ℕ → Term → List Call → List Answer
-unfolding opened callsFrom
-calls bs t cs = let m : Moved = opened bs t in m .answer ∷ callsFrom bs t (m .cursor) cs
-
--- the cursor after them
-unfoldable pub cursorAfter : List ℕ → Term → SegmentPostings → List Call → SegmentPostings
-unfolding called
-cursorAfter bs t c [] = c
-cursorAfter bs t c (call ∷ cs) = cursorAfter bs t (called c bs t call .cursor) cs
 
 -- ---- one turn of each
 
@@ -196,3 +176,69 @@ calls-count t bs sound cs =
       unpacked-visited = k .same-count;
       entries-are = rw (← k .same-position) (entries-read s (k .holds));
     })
+
+-- ---- the answers as numbers, entries read included
+
+-- what is answered where a call came to carries the cursor's entries
+answer-numbers : (t : Term) (c : SegmentPostings) → numbers (answerAt t c) ≡ shownNumbers (shown (answerAt t c)) (c .entries)
+unfolding answerAt numbers shown shownNumbers
+answer-numbers t c =
+    choose-elim (λ (a : Answer). numbers a ≡ shownNumbers (shown a) (c .entries)) (eqb (position c) (t .count))
+    (λ _. At TERMINATED 0 (c .unpacked) (c .entries))
+    (λ _. At (getD (c .docs) (c .place) 0) (getD (c .freqs) (c .place) 0) (c .unpacked) (c .entries))
+    (λ _. refl) (λ _. refl)
+
+moved-numbers : (t : Term) (before : SegmentPostings) (o : Outcome SegmentPostings)
+    → numbers (moved t before o .answer) ≡ shownNumbers (shown (moved t before o .answer)) (moved t before o .cursor .entries)
+unfolding moved numbers shown shownNumbers
+moved-numbers t before (ok c) = answer-numbers t c
+moved-numbers t before (refused n) = refl
+
+called-numbers : (c : SegmentPostings) (bs : List ℕ) (t : Term) (call : Call)
+    → numbers (called c bs t call .answer) ≡ shownNumbers (shown (called c bs t call .answer)) (called c bs t call .cursor .entries)
+called-numbers c bs t step = rw called-step (moved-numbers t c (stepping c bs t))
+called-numbers c bs t (seek target) = rw called-seek (moved-numbers t c (seeking c bs t target))
+
+allNumbers-more : (a : Answer) (rest : List Answer) → allNumbers (a ∷ rest) ≡ numbers a ++ allNumbers rest
+unfolding allNumbers
+allNumbers-more a rest = refl
+
+modelNumbers-more : (n : ℕ) (a : model.Answer) (rest : List model.Answer) (p : ℕ) (ps : List ℕ)
+    → modelNumbers n (a ∷ rest) (p ∷ ps) ≡ shownNumbers a (entriesRead n p) ++ modelNumbers n rest ps
+unfolding modelNumbers
+modelNumbers-more n a rest p ps = refl
+
+positionsFrom-more : (ds : List ℕ) (m : State) (call : Call) (cs : List Call)
+    → positionsFrom ds m (call ∷ cs) ≡ after ds m call .position ∷ positionsFrom ds (after ds m call) cs
+unfolding positionsFrom
+positionsFrom-more ds m call cs = refl
+
+positions-is : (ds : List ℕ) (cs : List Call) → positions ds cs ≡ model.opened .position ∷ positionsFrom ds model.opened cs
+unfolding positions
+positions-is ds cs = refl
+
+none-numbered : (n : ℕ) (ps : List ℕ) → allNumbers [] ≡ modelNumbers n [] ps
+unfolding allNumbers modelNumbers
+none-numbered n ps = refl
+
+module _ {t : Term} {bs : List ℕ} (s : Sound t bs) where
+  entries-agree : {c : SegmentPostings} {m : State} → Agrees s c m → c .entries ≡ entriesRead (t .count) (m .position)
+  entries-agree k = rw (← k .same-position) (entries-read s (k .holds))
+
+  from-numbers : {c : SegmentPostings} {m : State} → Agrees s c m → (cs : List Call)
+      → allNumbers (callsFrom bs t c cs) ≡ modelNumbers (t .count) (answersFrom (docs s) (freqs s) m cs) (positionsFrom (docs s) m cs)
+  from-numbers {c} {m} k [] = rw (callsFrom-none, answersFrom-none) (none-numbered _ _)
+  from-numbers {c} {m} k (call ∷ cs) =
+      let p = call-shows s k call in
+      rw (callsFrom-more, answersFrom-more, positionsFrom-more, allNumbers-more, modelNumbers-more)
+      (ap₂ _++_ (called-numbers c bs t call ∙ ap₂ shownNumbers (p .0) (entries-agree (p .1))) (from-numbers (p .1) cs))
+
+-- the numbers answered are the model's, and the entries read those that lead to the block of its position
+pub calls-numbers : (t : Term) (bs : List ℕ) → reading t bs .refusal ≡ 0 → (cs : List Call)
+    → allNumbers (calls bs t cs)
+    ≡ modelNumbers (t .count) (answers (docsOf (reading t bs .blocks)) (freqsOf (reading t bs .blocks)) cs) (positions (docsOf (reading t bs .blocks)) cs)
+calls-numbers t bs sound cs =
+    let s = sound-image t bs sound in
+    let p = opening-agrees s in
+    rw (calls-is, opened-is, p .2, moved-ok, answers-is, positions-is, allNumbers-more, modelNumbers-more)
+    (ap₂ _++_ (answer-numbers t (p .0) ∙ ap₂ shownNumbers (answer-agrees s (p .1)) (entries-agree s (p .1))) (from-numbers s (p .1) cs))

@@ -23,6 +23,7 @@ pub mod Taking
 pub mod TotalBlocks
 pub mod TotalWalk
 pub mod Turns
+pub mod Types
 pub mod Unopened
 pub mod Walk
 pub mod WalkShows

@@ -8,8 +8,8 @@ use lib.ListN.{replicate}
 use Rattle.format.specs.declared.Term.{Term}
 use Rattle.format.specs.Reading.{reading, docsOf, freqsOf}
 use Rattle.format.specs.Model.{step, answers}
-use Rattle.segment_postings.proofs.Agrees.{shown}
-use Rattle.segment_postings.proofs.CallsShow.{calls, calls-show}
+use Rattle.segment_postings.specs.Called.{shown, calls}
+use Rattle.segment_postings.proofs.CallsShow.{calls-show}
 
 pub walk-shows : (t : Term) (bs : List ℕ) → reading t bs .refusal ≡ 0 → (n : ℕ)
     → map shown (calls bs t (replicate n step))

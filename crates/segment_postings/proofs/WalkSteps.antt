@@ -24,7 +24,8 @@ use Rattle.segment_postings.specs.declared.SegmentPostings.{SegmentPosti
 use Rattle.segment_postings.specs.Cursor.{landing, answerAt, moved, blank, opening, opened, atPlace, stepping, advanced}
 use Rattle.segment_postings.proofs.BlockHeld.{landing-none}
 use Rattle.segment_postings.proofs.Turns.{moved-ok, opening-is, opened-is, advanced-is}
-use Rattle.segment_postings.proofs.CallsShow.{called, callsFrom, calls, callsFrom-none, callsFrom-more, calls-is, moved-refused}
+use Rattle.segment_postings.specs.Called.{called, callsFrom, calls}
+use Rattle.segment_postings.proofs.CallsShow.{callsFrom-none, callsFrom-more, calls-is, moved-refused}
 use Rattle.segment_postings.proofs.Walk.{reading-whole}
 use Rattle.segment_postings.proofs.WalkStands.{OnBlock, passed-none, landing-on, position-there, place-there, tail-ends, answer-here, answer-end}
 use Rattle.segment_postings.proofs.WalkStands.{step-ends, step-goes, step-leaves, passed-on, passed-stops}

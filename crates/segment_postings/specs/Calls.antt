@@ -14,6 +14,7 @@ use Rattle.format.specs.Vint.{skipLength}
 use Rattle.format.specs.SkipEntry.{blockSize}
 use Rattle.format.specs.Layout.{layout, fullBlocks}
 use Rattle.format.specs.Reading.{Block}
+use Rattle.segment_postings.specs.declared.Answer.{Answer}
 use Rattle.segment_postings.specs.declared.Found.{Found}
 use Rattle.segment_postings.specs.declared.Laid.{Laid}
 use Rattle.segment_postings.specs.declared.Laid.the-variants as laid-as
@@ -23,6 +24,7 @@ use Rattle.segment_postings.specs.declared.Search.{Search}
 use Rattle.segment_postings.specs.declared.Search.the-variants as search-as
 use Rattle.segment_postings.specs.declared.Loaded.{Loaded}
 use Rattle.segment_postings.specs.declared.Loaded.the-variants as loaded-as
+use Rattle.segment_postings.specs.declared.Moved.{Moved}
 use Rattle.segment_postings.specs.declared.SegmentPostings.{SegmentPostings}
 use Rattle.segment_postings.specs.declared.Held.{Held}
 use Rattle.segment_postings.specs.declared.Reached.{Reached}
@@ -148,3 +150,7 @@ loaded t l bs f unpacked = andThen (loadBlock t l bs f) λ block. ok (holding f 
 unfoldable pub valued : Outcome ℕ → Value
 valued (ok n) = value-as.Is n
 valued (refused n) = value-as.Refused n
+
+-- a call on a lent cursor answers as m does, and leaves its cursor
+abbrev pub Leaves : Moved → Answer → SegmentPostings → Type 0
+Leaves m answer after = (answer ≡ m .answer) × (after ≡ m .cursor)

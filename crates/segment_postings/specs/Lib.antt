@@ -1,3 +1,4 @@
+pub mod Called
 pub mod Calls
 pub mod Cursor
 pub mod Passed

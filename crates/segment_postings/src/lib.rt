@@ -8,6 +8,7 @@ mod core;
 mod counts;
 mod find;
 pub mod layout;
+mod lending;
 mod load;
 mod seeks;
 mod segment_postings;
@@ -15,6 +16,10 @@ pub mod validate;
 mod whole;
 
 pub use crate::counts::total;
+pub use crate::lending::advance_by_lending;
+pub use crate::lending::advance_mut;
+pub use crate::lending::seek_by_lending;
+pub use crate::lending::seek_mut;
 pub use crate::seeks::rank;
 pub use crate::seeks::seek;
 pub use crate::segment_postings::advance;

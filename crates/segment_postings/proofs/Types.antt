@@ -1,6 +1,3 @@
-# Copy to crates/segment_postings/proofs/Types.antt without the lines that begin with "# "; add `pub mod Types` to proofs/Lib.antt.
-# Needs `thin` among the deps of segment_postings. Change: nothing, while the types stand in the crate's root (src/lib.rt). If the
-# parameters of `advance` or `seek` change, change the lists at the end: their order is that of the function, less the cursor.
 -- The cursor, its answer, a term and the parameters of `advance` and `seek`, as the theorems of `thin` take them.
 -- Assumes nothing.
 use mathlib.Core.Path.{refl}

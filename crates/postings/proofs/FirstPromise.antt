@@ -1,0 +1,146 @@
+-- The first promise of the order:
+--   "A list is accepted if its ids rise strictly and stay at or below 2,147,483,646, its kept frequencies are at least 1, its count is
+--   the announced one and the buffers are long enough; an image is admitted exactly if it is sound by document 01, and each call ends.
+--   All else is refused under 01's numbers by the call itself, with cursor, writer state and buffers the same as before."
+-- Each theorem takes what a call's contract ensures. That each call ends is the checker's verdict over every function. The numbers of
+-- the refusals are those of the definitions that the contracts cite. For single calls of the writer see serializer/proofs/WritesList.antt:
+-- `single-calls-write`, `single-calls-refuse`, `single-calls-no-room`, and its field `miscounted` for the announced count.
+-- Assumes nothing.
+use mathlib.Core.Bool.{Bool, true, false, not, _&&_ as and, _||_ as or, and-eq-true-iff}
+use mathlib.Core.List.{List, [], _∷_}
+use mathlib.Core.Logic.{_↔_}
+use mathlib.Core.Path.{_≡_, refl, sym, _∙_}
+use Prim.Native.Nat.{ℕ, _+_, _≤_, _^_}
+use native.Mathlib.Omega.{arith}
+use borrow.Author.Tests.{le-leb, eq-eqb}
+use lib.Dec.{leb, ltb}
+use lib.ListN.{length}
+use Rattle.format.specs.declared.IndexRecordOption.{IndexRecordOption}
+use Rattle.format.specs.Basics.{Outcome, ok, refused, andThen, ask, TERMINATED}
+use Rattle.format.specs.SkipEntry.{hasFreq}
+use Rattle.format.specs.Values.{rising, countable}
+use Rattle.format.specs.Written.{image}
+use Rattle.format.specs.Accepted.{keptIn, begin, takeDoc, takeDocs, written}
+use Rattle.format.specs.Reading.{reading, soundness}
+use Rattle.format.proofs.Lists.{AllBelow}
+use Rattle.format.proofs.Opened.{soundness-is}
+use Rattle.format.proofs.Accepted.{Accepted, written-ok}
+use Rattle.serializer.specs.declared.Answer.{Answer}
+use Rattle.serializer.specs.declared.Answer.the-variants.{Bytes, Refused}
+use Rattle.serializer.specs.declared.PostingsSerializer.{PostingsSerializer}
+use Rattle.serializer.specs.declared.Step.{Step}
+use Rattle.serializer.specs.Writer.{Areas, after, listing, closing}
+use Rattle.serializer.specs.Calls.{answered, Settled, Closed, Listed}
+use Rattle.serializer.proofs.WholeList.{HasRoom, whole-list-writes}
+
+-- ---- accepted lists
+
+granted : (a b : Bool) → (a ≡ true → b ≡ true) → or (not a) b ≡ true
+granted true b h = h refl
+granted false b h = refl
+
+taken : (option : IndexRecordOption) (least d f : ℕ) (ds fs : List ℕ) → Accepted option least (d ∷ ds) (f ∷ fs)
+    → (takeDoc option least d f ≡ ok (d + 1)) × Accepted option (d + 1) ds fs
+unfolding takeDoc ask rising countable
+taken option least d f ds fs a =
+    let rises : and (and (leb least d) (ltb d TERMINATED)) (rising (d + 1) ds) ≡ true = a .rises in
+    let counts : hasFreq option ≡ true → and (and (leb 1 f) (leb f 4294967295)) (countable fs) ≡ true = a .counts in
+    let p = and-eq-true-iff (and (leb least d) (ltb d TERMINATED)) (rising (d + 1) ds) .0 rises in
+    let q = and-eq-true-iff (leb least d) (ltb d TERMINATED) .0 (p .0) in
+    let kept : hasFreq option ≡ true → (and (leb 1 f) (leb f 4294967295) ≡ true) × (countable fs ≡ true) =
+    λ k. and-eq-true-iff (and (leb 1 f) (leb f 4294967295)) (countable fs) .0 (counts k) in
+    let one : or (not (hasFreq option)) (leb 1 f) ≡ true =
+    granted (hasFreq option) (leb 1 f) (λ k. and-eq-true-iff (leb 1 f) (leb f 4294967295) .0 (kept k .0) .0) in (
+      rw (q .1, q .0, one),
+      record { rises = p .1; counts = λ k. kept k .1; as-many = omega (arith, a .as-many) },
+    )
+
+all-taken : (option : IndexRecordOption) (least : ℕ) (ds fs : List ℕ) → Accepted option least ds fs
+    → (next : ℕ) × (takeDocs option least ds fs ≡ ok next)
+unfolding takeDocs andThen
+all-taken option least [] fs a = (least, refl)
+all-taken option least (d ∷ ds) [] a = absurd (omega (arith, a .as-many))
+all-taken option least (d ∷ ds) (f ∷ fs) a =
+    let p = taken option least d f ds fs a in
+    let q = all-taken option (d + 1) ds fs (p .1) in
+    (q .0, rw (p .0) (q .1))
+
+accepted-written : (mode : ℕ) (recording : Bool) (ds fs : List ℕ) → mode ≤ 1 → Accepted (keptIn mode recording) 0 ds fs
+    → written mode recording ds fs ≡ ok (image (keptIn mode recording) ds fs)
+unfolding written begin andThen ask
+accepted-written mode recording ds fs known a =
+    let p = all-taken (keptIn mode recording) 0 ds fs a in
+    rw (le-leb mode 1 known, eq-eqb (length ds) (length fs) (a .as-many), p .1)
+
+pub bytes-answered : {A : Type 0} (bytes : A → ℕ) (o : Outcome A) {n : ℕ} → answered bytes o ≡ Bytes n → (a : A) × (o ≡ ok a) × (n ≡ bytes a)
+unfolding answered
+bytes-answered bytes (ok a) e = (a, refl, cc)
+bytes-answered bytes (refused m) e = absurd (let z : _≡_ {A = ℕ} 0 1 = cc in omega arith)
+
+refusal-answered : {A : Type 0} (bytes : A → ℕ) (o : Outcome A) {n : ℕ} → answered bytes o ≡ Refused n → o ≡ refused n
+unfolding answered
+refusal-answered bytes (ok a) e = absurd (let z : _≡_ {A = ℕ} 0 1 = cc in omega arith)
+refusal-answered bytes (refused m) e = cc
+
+module _ (mode : ℕ) (recording : Bool) (ds fs skips postings output : List ℕ) (small : AllBelow (2 ^ 32) fs) where
+  -- what is asked of a list: a known mode, ids that rise strictly and stay below 2147483647, kept frequencies of at least 1, as many of
+  -- the one as of the other, and room
+  pub record Acceptable : Type 0 where
+    pub mode-known : mode ≤ 1
+    pub accepted : Accepted (keptIn mode recording) 0 ds fs
+    pub has-room : HasRoom mode recording ds fs skips postings output (image (keptIn mode recording) ds fs)
+
+  listed-acceptable : {bytes : List ℕ} → listing mode recording ds fs skips postings output ≡ ok bytes → Acceptable
+  listed-acceptable e =
+      let p = whole-list-writes mode recording ds fs skips postings output .0 e in
+      let w = written-ok mode recording ds fs small (p .0) in
+      record { mode-known = w .mode-known; accepted = w .accepted; has-room = rw (w .bytes) at (p .1) }
+
+  acceptable-listed : Acceptable → listing mode recording ds fs skips postings output ≡ ok (image (keptIn mode recording) ds fs)
+  acceptable-listed a =
+      whole-list-writes mode recording ds fs skips postings output .1
+      (accepted-written mode recording ds fs (a .mode-known) (a .accepted), a .has-room)
+
+  -- a list is accepted exactly then: `write_list` answers a number of bytes, and else a refusal
+  pub list-accepted : {skips′ postings′ output′ : List ℕ} {r : Answer} → Listed mode recording ds fs skips postings output skips′ postings′ output′ r
+      → ((n : ℕ) × (r ≡ Bytes n)) ↔ Acceptable
+  unfolding answered
+  list-accepted l = (
+    λ b. listed-acceptable (bytes-answered length _ (sym (l .answer) ∙ b .1) .1),
+    λ a. (length (image (keptIn mode recording) ds fs), l .answer ∙ rw (acceptable-listed a)),
+  )
+
+-- ---- admitted images
+
+-- `validate` answers 0 exactly where a walk over the whole image, frequencies requested, gets yes to questions 1 to 9
+pub image-admitted : (mode count : ℕ) (bs : List ℕ) {r : ℕ} → r ≡ soundness mode count bs
+    → (r ≡ 0) ↔ (reading (record { mode = mode; requested = 1; count = count }) bs .refusal ≡ 0)
+image-admitted mode count bs e = (λ z. sym (soundness-is mode count bs) ∙ sym e ∙ z, λ z. e ∙ soundness-is mode count bs ∙ z)
+
+-- ---- refusals leave all as it was; those of the cursor are `refused-stays` in ThirdPromise.antt
+
+-- a document, by `write_doc`
+pub refused-document : {o : Outcome Areas} {s : PostingsSerializer} {skips postings skips′ postings′ : List ℕ} {r : Step} {n : ℕ}
+    → Settled o s skips postings skips′ postings′ r → r .answer ≡ Refused n
+    → (r .state ≡ s) × (skips′ ≡ skips) × (postings′ ≡ postings)
+unfolding after
+refused-document {o} h e =
+    let no = refusal-answered (λ _. 0) o (sym (h .answer) ∙ e) in
+    (rw no at (h .state), rw no at (h .skips-after), rw no at (h .postings-after))
+
+-- closing, by `close_term`
+pub refused-closing : (s : PostingsSerializer) (announced : ℕ) (skips postings output : List ℕ) {output′ : List ℕ} {r : Step} {n : ℕ}
+    → Closed s announced skips postings output output′ r → r .answer ≡ Refused n → (r .state ≡ s) × (output′ ≡ output)
+unfolding after
+refused-closing s announced skips postings output h e =
+    let no = refusal-answered length (closing s announced skips postings output) (sym (h .answer) ∙ e) in
+    (rw no at (h .state), rw no at (h .output-after))
+
+-- a whole list, by `write_list`
+pub refused-list : (mode : ℕ) (recording : Bool) (ds fs skips postings output : List ℕ) {skips′ postings′ output′ : List ℕ} {r : Answer} {n : ℕ}
+    → Listed mode recording ds fs skips postings output skips′ postings′ output′ r → r ≡ Refused n
+    → (skips′ ≡ skips) × (postings′ ≡ postings) × (output′ ≡ output)
+unfolding after
+refused-list mode recording ds fs skips postings output h e =
+    let no = refusal-answered length (listing mode recording ds fs skips postings output) (sym (h .answer) ∙ e) in
+    (rw no at (h .skips-after), rw no at (h .postings-after), rw no at (h .output-after))

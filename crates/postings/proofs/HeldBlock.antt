@@ -1,0 +1,63 @@
+-- A call that does not leave the held block does not look at the image, beyond its length for question 16: on two images of the same
+-- length it answers the same and leaves the same cursor. So a bad block is refused only once it is landed on. The fraud that document 01
+-- names beside it, unpacking all at opening, would refuse at opening.
+-- Assumes nothing.
+use mathlib.Core.Path.{_≡_, refl}
+use mathlib.Core.List.{List, [], _∷_}
+use Prim.Native.Nat.{ℕ, _+_, _≤_, _<_}
+use borrow.Author.Tests.{eq-eqb, lt-ltb, le-leb, lt-leb}
+use lib.ListN.{length, getD}
+use Rattle.format.specs.declared.Term.{Term}
+use Rattle.format.specs.Basics.{ask, choose, TERMINATED}
+use Rattle.format.specs.Model.{step, seek}
+use Rattle.block_search.specs.Search.{pivotsBelow}
+use Rattle.segment_postings.specs.declared.Answer.the-variants.{At, Refused}
+use Rattle.segment_postings.specs.declared.SegmentPostings.{SegmentPostings}
+use Rattle.segment_postings.specs.Cursor.{position, inBounds, stepping, advanced, seeking, sought}
+use Rattle.segment_postings.specs.Called.{calls}
+
+module _ (c : SegmentPostings) (t : Term) (bs bs′ : List ℕ) (same : length bs ≡ length bs′) where
+  same-bounds : inBounds t bs c ≡ inBounds t bs′ c
+  unfolding inBounds
+  same-bounds = rw same
+
+  -- at the end
+  pub step-at-end : position c ≡ t .count → advanced c bs t ≡ advanced c bs′ t
+  unfolding advanced stepping choose
+  step-at-end e = rw (same-bounds, eq-eqb (position c) (t .count) e)
+
+  pub seek-at-end : (target : ℕ) → position c ≡ t .count → sought c bs t target ≡ sought c bs′ t target
+  unfolding sought seeking choose
+  seek-at-end target e = rw (same-bounds, eq-eqb (position c) (t .count) e)
+
+  -- a step to another place of the block
+  pub step-held : c .place + 1 < 128 → advanced c bs t ≡ advanced c bs′ t
+  unfolding advanced stepping choose
+  step-held h = rw (same-bounds, lt-ltb (c .place + 1) 128 h)
+
+  -- a seek to a target not behind the present document, or not behind the block's last id
+  pub seek-stays : (target : ℕ) → target ≤ getD (c .docs) (c .place) 0 → sought c bs t target ≡ sought c bs′ t target
+  unfolding sought seeking choose
+  seek-stays target h = rw (same-bounds, le-leb target (getD (c .docs) (c .place) 0) h)
+
+  pub seek-held : (target : ℕ) → target ≤ c .«last_doc» → sought c bs t target ≡ sought c bs′ t target
+  unfolding sought seeking choose
+  seek-held target h = rw (same-bounds, le-leb target (c .«last_doc») h)
+
+  -- a target that is refused
+  pub seek-refused : (target : ℕ) → TERMINATED < target → sought c bs t target ≡ sought c bs′ t target
+  unfolding sought seeking ask choose
+  seek-refused target h = rw (same-bounds, lt-leb target TERMINATED h)
+
+-- ---- one image
+
+-- the ids 0 to 128 in mode 0, the tail's number cut short: its first block is read as it stands, the tail refused under 8 by the calls
+-- that would land on it, and the next call finds the cursor in the first block again
+abbrev late : List ℕ
+late = 0x85 ∷ 0x7F ∷ 0 ∷ 0 ∷ 0 ∷ 0x40 ∷ 0x01 ∷ []
+
+pub refused-once-landed-on :
+    calls late (record { mode = 0; requested = 0; count = 129 }) (seek 127 ∷ step ∷ seek 128 ∷ seek 5 ∷ [])
+    ≡ At 0 1 1 1 ∷ At 127 1 1 1 ∷ Refused 8 ∷ Refused 8 ∷ At 127 1 1 1 ∷ []
+unfolding calls pivotsBelow
+refused-once-landed-on = refl

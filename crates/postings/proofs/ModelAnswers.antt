@@ -1,0 +1,86 @@
+-- On an admitted image the numbers answered are the model's. The image is sound in the requested mode too, so opening isn't refused and
+-- every call is made; each answers what the model answers, and the entries read lead to the block of the model's position, so that
+-- they are at most the full blocks.
+-- Assumes nothing.
+use mathlib.Core.Path.{_≡_, refl, ap}
+use mathlib.Core.List.{List, [], _∷_, map}
+use Prim.Native.Nat.{ℕ, zero, suc, _+_, _*_, _/_, _≤_}
+use native.Mathlib.Omega.{arith}
+use lib.ListN.{length, getD, List·getD-append, length-map}
+use lib.Seq.{getD-append-add}
+use Rattle.format.specs.declared.Term.{Term}
+use Rattle.format.specs.Reading.{reading, soundness, docsOf, freqsOf}
+use Rattle.format.specs.Model.{Answer as Shown, at, refused, Call, here, answersFrom, answers, entriesRead}
+use Rattle.format.specs.Model as model
+use Rattle.format.proofs.Requested.{sound-requested}
+use Rattle.segment_postings.specs.declared.Answer.{Answer}
+use Rattle.segment_postings.specs.declared.Answer.the-variants.{At, Refused}
+use Rattle.segment_postings.specs.Cursor.{opened}
+use Rattle.segment_postings.specs.Called.{shown, callsFrom, calls, allNumbers, shownNumbers, positions, modelNumbers}
+use Rattle.segment_postings.proofs.CallsShow.{calls-show, calls-numbers}
+use Rattle.postings.specs.RunCalls.{callOf, unlessRefused, answered, modelAnswers}
+use Rattle.postings.proofs.Answered.{as-many-answers}
+
+-- ---- entries read
+
+entry-of : (a : Shown) (e n : ℕ) → e ≤ n → getD (shownNumbers a e) 4 0 ≤ n
+unfolding shownNumbers
+entry-of (at doc freq unpacked) e n h = h
+entry-of (refused k) e n h = omega arith
+
+shown-five : (a : Shown) (e : ℕ) → length (shownNumbers a e) ≡ 5
+unfolding shownNumbers
+shown-five (at doc freq unpacked) e = refl
+shown-five (refused k) e = refl
+
+entries-most : (n p : ℕ) → entriesRead n p ≤ n / 128
+unfolding entriesRead
+entries-most n p = omega arith
+
+-- the fifth number of every answer
+pub entry-most : (n : ℕ) (told : List Shown) (ps : List ℕ) (i : ℕ) → getD (modelNumbers n told ps) (5 * i + 4) 0 ≤ n / 128
+unfolding modelNumbers
+entry-most n [] ps i = omega arith
+entry-most n (a ∷ told) [] i = omega arith
+entry-most n (a ∷ told) (p ∷ ps) zero =
+    rw (List·getD-append (shownNumbers a (entriesRead n p)) (modelNumbers n told ps) 0 4 (omega (arith, shown-five a (entriesRead n p))))
+    (entry-of a (entriesRead n p) (n / 128) (entries-most n p))
+entry-most n (a ∷ told) (p ∷ ps) (suc i) =
+    let here : List ℕ = shownNumbers a (entriesRead n p) in
+    let behind : 5 * suc i + 4 ≡ length here + (5 * i + 4) = omega (arith, shown-five a (entriesRead n p)) in
+    rw (behind, getD-append-add here (modelNumbers n told ps) (5 * i + 4) 0) (entry-most n told ps i)
+
+-- ---- where opening isn't refused
+
+not-refused : (a : Answer) {doc freq unpacked : ℕ} → shown a ≡ at doc freq unpacked → (rest : List Answer) → unlessRefused a rest ≡ rest
+unfolding shown unlessRefused
+not-refused (At doc freq unpacked entries) e rest = refl
+not-refused (Refused n) e rest = absurd (let z : _≡_ {A = ℕ} 0 1 = cc in omega arith)
+
+module _ (bs : List ℕ) (t : Term) (ns : List ℕ) (sound : soundness (t .mode) (t .count) bs ≡ 0) (known : t .requested ≤ 2) where
+  readable : reading t bs .refusal ≡ 0
+  readable = sound-requested (t .mode) (t .requested) (t .count) bs known sound
+
+  first-shown : shown (opened bs t .answer) ≡ here (docsOf (reading t bs .blocks)) (freqsOf (reading t bs .blocks)) model.opened
+  unfolding calls callsFrom answers answersFrom
+  first-shown = let e = calls-show t bs readable [] in cc
+
+  all-called : answered bs t ns ≡ calls bs t (map callOf ns)
+  unfolding answered calls here
+  all-called = ap (λ (l : List Answer). opened bs t .answer ∷ l) (not-refused (opened bs t .answer) first-shown _)
+
+  pub all-answered : length (answered bs t ns) ≡ length ns + 1
+  unfolding calls
+  all-answered = rw all-called (omega (arith, as-many-answers bs t (opened bs t .cursor) (map callOf ns), length-map ns callOf))
+
+  pub answers-model : allNumbers (answered bs t ns) ≡ modelAnswers bs t ns
+  unfolding modelAnswers
+  answers-model = rw all-called (calls-numbers t bs readable (map callOf ns))
+
+  -- .. and the entries read stand in every fifth place
+  pub entries-full : (i : ℕ) → getD (modelAnswers bs t ns) (5 * i + 4) 0 ≤ t .count / 128
+  unfolding modelAnswers
+  entries-full i =
+      let docs : List ℕ = docsOf (reading t bs .blocks) in
+      let cs : List Call = map callOf ns in
+      entry-most (t .count) (answers docs (freqsOf (reading t bs .blocks)) cs) (positions docs cs) i

@@ -1,0 +1,112 @@
+-- The second promise of the order, as far as it is proved:
+--   "Proved: they are what the definitions say, and a written list reads back as itself, frequencies not kept as 1".
+-- What `write_list` leaves at the front of the output is the image that the definitions give; it is admitted, its documents are the
+-- list's and its frequencies the list's, or 1 for each where they aren't kept or not requested. So any list of calls on it answers what
+-- the model answers of the list itself; ranks and totals are its counts and sums. The runs against the Rust are in differential/.
+-- Assumes nothing.
+use mathlib.Core.Bool.{Bool, _&&_ as and}
+use mathlib.Core.List.{List, _∷_, map}
+use mathlib.Core.Path.{_≡_, sym, ap, _∙_}
+use Prim.Native.Nat.{ℕ, _+_, _≤_, _^_}
+use native.Mathlib.Omega.{arith}
+use borrow.Author.Tests.{le-leb}
+use lib.Dec.{ltb}
+use lib.ListN.{length, take}
+use lib.Seq.{take-append-le, take-length}
+use Rattle.format.specs.declared.Term.{Term}
+use Rattle.format.specs.Basics.{ok, choose, fitsAt, putAt, TERMINATED}
+use Rattle.format.specs.SkipEntry.{hasFreq}
+use Rattle.format.specs.Written.{image}
+use Rattle.format.specs.Accepted.{keptIn}
+use Rattle.format.specs.Reading.{reading, soundness, docsOf, freqsOf}
+use Rattle.format.specs.Counts.{countBelow, total}
+use Rattle.format.specs.Model.{after, answers}
+use Rattle.format.specs.Model as model
+use Rattle.format.proofs.Lists.{AllBelow}
+use Rattle.format.proofs.Accepted.{written-ok}
+use Rattle.format.proofs.Blocks.{docs-rising}
+use Rattle.format.proofs.ReadFreqs.{readFreqs}
+use Rattle.format.proofs.ReadsBack.{ReadsBack}
+use Rattle.format.proofs.Requested.{sound-requested, same-docs}
+use Rattle.format.proofs.Sound.{sound-image, sound-blocks}
+use Rattle.format.proofs.Totals.{sumBelow, total-below}
+use Rattle.format.proofs.Visited.{seek-goes}
+use Rattle.serializer.specs.declared.Answer.the-variants.{Bytes}
+use Rattle.serializer.specs.Writer as writer
+use Rattle.serializer.specs.Writer.{listing}
+use Rattle.serializer.specs.Calls.{Listed}
+use Rattle.serializer.proofs.WholeList.{whole-list-writes, whole-list-sound, whole-list-reads-back}
+use Rattle.segment_postings.specs.declared.Answer.{Answer}
+use Rattle.segment_postings.specs.declared.Moved.{Moved}
+use Rattle.segment_postings.specs.declared.SegmentPostings.{SegmentPostings}
+use Rattle.segment_postings.specs.Cursor.{position, opened, ranking}
+use Rattle.segment_postings.specs.Called.{shown}
+use Rattle.segment_postings.proofs.Agrees.{opening-agrees}
+use Rattle.segment_postings.proofs.SeekAgrees.{seeking-agrees}
+use Rattle.segment_postings.proofs.Sought.{ranking-found}
+use Rattle.postings.specs.MixedCalls.{MadeCall, Called}
+use Rattle.postings.proofs.FirstPromise.{bytes-answered}
+use Rattle.postings.proofs.ThirdPromise.{callsOf, third-promise}
+
+put-front : (xs area : List ℕ) → length xs ≤ length area → take (length xs) (putAt 0 xs area) ≡ xs
+unfolding putAt choose fitsAt
+put-front xs area h = rw (le-leb (0 + length xs) (length area) (omega arith), take-append-le (length xs) xs _ (omega arith), take-length)
+
+module _ (mode : ℕ) (recording : Bool) (ds fs skips postings output : List ℕ) (small : AllBelow (2 ^ 32) fs)
+    {skips′ postings′ output′ : List ℕ} {n : ℕ} (listed : Listed mode recording ds fs skips postings output skips′ postings′ output′ (Bytes n)) where
+  -- the bytes written are the image
+  written-image : (listing mode recording ds fs skips postings output ≡ ok (take n output′)) × (take n output′ ≡ image (keptIn mode recording) ds fs)
+  unfolding writer.after
+  written-image =
+      let p = bytes-answered length (listing mode recording ds fs skips postings output) (sym (listed .answer)) in
+      let room = whole-list-writes mode recording ds fs skips postings output .0 (p .1) in
+      let out = rw (p .1) at (listed .output-after) in
+      let same : take n output′ ≡ p .0 =
+      ap (λ k. take k output′) (p .2) ∙ ap (take (length (p .0))) out ∙ put-front (p .0) output (room .1 .output-fit) in
+      (rw same (p .1), same ∙ written-ok mode recording ds fs small (room .0) .bytes)
+
+  pub written-bytes : take n output′ ≡ image (keptIn mode recording) ds fs
+  written-bytes = written-image .1
+
+  pub written-admitted : soundness mode (length ds) (take n output′) ≡ 0
+  written-admitted = whole-list-sound mode recording ds fs skips postings output small (written-image .0)
+
+  module _ (requested : ℕ) (known : requested ≤ 2) where
+    abbrev term : Term
+    term = record { mode = mode; requested = requested; count = length ds }
+
+    -- the list's own frequencies where they are kept and requested, else a 1 for each
+    abbrev freqsRead : List ℕ
+    freqsRead = readFreqs (and (hasFreq (keptIn mode recording)) (ltb 0 requested)) fs
+
+    pub written-reads-back : ReadsBack ds freqsRead (reading term (take n output′))
+    written-reads-back = whole-list-reads-back mode recording ds fs skips postings output requested known small (written-image .0)
+
+    -- every list of calls on the written image answers what the model answers of the list
+    pub written-answers : {first : Moved} → first ≡ opened (take n output′) term
+        → {made : List MadeCall} {told : List Answer} {c : SegmentPostings} → Called (take n output′) term (first .cursor) made told c
+        → map shown (first .answer ∷ told) ≡ answers ds freqsRead (callsOf made)
+    written-answers opens later =
+        let b = written-reads-back in
+        rw (b .docs, b .freqs) at (third-promise (take n output′) term written-admitted known opens later .model-answers)
+
+-- ---- ranks and totals on an admitted image
+
+module _ (mode count : ℕ) (bs : List ℕ) (sound : soundness mode count bs ≡ 0) (target : ℕ) (most : target ≤ TERMINATED) where
+  -- `rank` counts the documents below the target
+  pub rank-counts : ranking mode count bs target ≡ ok (countBelow target (docsOf (reading (record { mode = mode; requested = 1; count = count }) bs .blocks)))
+  unfolding position model.opened
+  rank-counts =
+      let t : Term = record { mode = mode; requested = 0; count = count } in
+      let docs : List ℕ = docsOf (reading t bs .blocks) in
+      let s = sound-image t bs (sound-requested mode 0 count bs (omega arith) sound) in
+      let p = opening-agrees s in
+      let q = seeking-agrees s (p .1) target most in
+      let goes = seek-goes 0 docs model.opened target (docs-rising (sound-blocks s)) most in
+      let there : position (q .0) ≡ countBelow target docs = omega (arith, q .1 .same-position, goes) in
+      ranking-found mode count bs target most (p .2) (q .2) ∙ ap ok (there ∙ ap (countBelow target) (same-docs mode 0 count bs (omega arith) sound))
+
+  -- `total` sums their frequencies
+  pub total-sums : total mode count bs target
+      ≡ ok (sumBelow target (docsOf (reading (record { mode = mode; requested = 1; count = count }) bs .blocks)) (freqsOf (reading (record { mode = mode; requested = 1; count = count }) bs .blocks)))
+  total-sums = total-below mode count bs sound target most

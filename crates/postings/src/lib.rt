@@ -1,0 +1,84 @@
+// Posting lists: what a customer links. Every public call of the parts stands here under one name, `run_calls` beside them, and
+// `proofs/` holds the three promises of the order as theorems over all of them.
+//
+// Every call is a plain function on numbers, slices and arrays. None demands anything of its caller, each returns on every input, and
+// the `ensures` beside it says the outcome on all inputs: the answer, and every byte of what is lent. A refusal answers the number of
+// the first question of document 01 that is answered no (`format` has a constant for each) and leaves everything lent as it was.
+//
+// WRITING. One term's list of documents and frequencies becomes an image. A state goes from call to call; a full block and its entry
+// go into two lent areas, and closing puts the image into the output.
+//
+//     let begun = new_term(1, true);                                   // mode 1, frequencies recorded
+//     let step = write_doc(begun.state, 3, 1, &mut skips, &mut postings);
+//     let step = write_doc(step.state, 7, 2, &mut skips, &mut postings);
+//     let closed = close_term(step.state, 2, &mut skips, &mut postings, &mut output);
+//     match closed.answer { Written::Bytes(n) => .., Written::Refused(why) => .. }
+//
+// or the whole list at once, which refuses before it writes a byte:
+//
+//     match write_list(1, true, &ids, &freqs, &mut skips, &mut postings, &mut output) { Written::Bytes(n) => .., Written::Refused(why) => .. }
+//
+// READING. The image, with its recorded mode, its count and the requested mode in a `Term`, is lent to each call. The cursor goes by
+// value and comes back beside the answer:
+//
+//     let term = Term { mode: 1, requested: 1, count: 3 };
+//     let opened = open(image, term);                                  // at the first document
+//     let moved = advance(opened.cursor, image, term);                 // the next
+//     let moved = seek(moved.cursor, image, term, 300);                // the first at or above 300, not before the present one
+//     match moved.answer { Answer::At { doc, freq, unpacked, entries } => .., Answer::Refused(why) => .. }
+//     let d = doc(moved.cursor, image, term);                          // the document at the position, 2147483647 at the end
+//     let f = term_freq(moved.cursor, image, term);                    // its frequency, 0 at the end
+//
+// or is lent, and changed in the caller's own record:
+//
+//     let mut cursor = opened.cursor;
+//     let answer = advance_mut(&mut cursor, image, term);
+//     let answer = seek_mut(&mut cursor, image, term, 300);
+//
+// `advance_by_lending` and `seek_by_lending` take and hand back the cursor by value and make their call on a lent one.
+//
+// COUNTS. From a fresh cursor:
+//
+//     match rank(image, 1, 3, 300) { Value::Is(n) => .., Value::Refused(why) => .. }      // documents below 300
+//     match total(image, 1, 3, 300) { Value::Is(n) => .., Value::Refused(why) => .. }     // the sum of their frequencies
+//
+// ADMISSION. An image that somebody else wrote is sound or not; the parts of one with full blocks are parts of the caller's slice:
+//
+//     let why = validate(image, 1, 3);                                 // 0 where it is sound
+//     let skips = skip_bytes(image, 3);
+//     let blocks = posting_bytes(image, 3);
+//
+// A LIST OF CALLS in one, coded as numbers (calls.rt): for comparisons with another engine and for measuring.
+//
+//     let n = run_calls(image, term, &[4294967296 + 300, 0], &mut answers);      // opens, seeks 300, steps: 3 answers of 5 numbers
+
+mod calls;
+
+pub use crate::calls::run_calls;
+pub use format::TERMINATED;
+pub use format::Term;
+pub use segment_postings::Answer;
+pub use segment_postings::Moved;
+pub use segment_postings::SegmentPostings;
+pub use segment_postings::Value;
+pub use segment_postings::advance;
+pub use segment_postings::advance_by_lending;
+pub use segment_postings::advance_mut;
+pub use segment_postings::doc;
+pub use segment_postings::layout::posting_bytes;
+pub use segment_postings::layout::skip_bytes;
+pub use segment_postings::open;
+pub use segment_postings::rank;
+pub use segment_postings::seek;
+pub use segment_postings::seek_by_lending;
+pub use segment_postings::seek_mut;
+pub use segment_postings::term_freq;
+pub use segment_postings::total;
+pub use segment_postings::validate::validate;
+pub use serializer::Answer as Written;
+pub use serializer::PostingsSerializer;
+pub use serializer::Step;
+pub use serializer::close_term;
+pub use serializer::new_term;
+pub use serializer::write_doc;
+pub use serializer::write_list;

@@ -1,0 +1,77 @@
+-- A list of calls on a cursor, each of which gets the cursor as the last one left it: what they answer, and the cursor after them. A
+-- refused call leaves the cursor, so the next one gets the same again. A call on a lent cursor is the same call: it leaves in the
+-- caller's record what the call by value hands back.
+-- Assumes nothing.
+use mathlib.Core.List.{List, [], _∷_, _++_}
+use Prim.Native.Nat.{ℕ}
+use Rattle.format.specs.declared.Term.{Term}
+use Rattle.format.specs.Model.{Answer as Shown, at, refused, Call, step, seek, State, after, entriesRead}
+use Rattle.format.specs.Model as model
+use Rattle.segment_postings.specs.declared.Answer.{Answer}
+use Rattle.segment_postings.specs.declared.Answer.the-variants.{At, Refused}
+use Rattle.segment_postings.specs.declared.Moved.{Moved}
+use Rattle.segment_postings.specs.declared.SegmentPostings.{SegmentPostings}
+use Rattle.segment_postings.specs.Cursor.{opened, advanced, sought}
+
+-- what the model says of an answer: document, frequency and blocks unpacked
+unfoldable pub shown : Answer → Shown
+shown (At doc freq unpacked entries) = at doc freq unpacked
+shown (Refused n) = refused n
+
+unfoldable pub called : SegmentPostings → List ℕ → Term → Call → Moved
+unfolding advanced sought
+called c bs t step = advanced c bs t
+called c bs t (seek target) = sought c bs t target
+
+-- each call gets the cursor as the last one left it
+unfoldable pub callsFrom : List ℕ → Term → SegmentPostings → List Call → List Answer
+unfolding called
+callsFrom bs t c [] = []
+callsFrom bs t c (call ∷ cs) = let m : Moved = called c bs t call in m .answer ∷ callsFrom bs t (m .cursor) cs
+
+-- what opening and then the calls answer
+unfoldable pub calls : List ℕ → Term → List Call → List Answer
+unfolding opened callsFrom
+calls bs t cs = let m : Moved = opened bs t in m .answer ∷ callsFrom bs t (m .cursor) cs
+
+-- the cursor after them
+unfoldable pub cursorAfter : List ℕ → Term → SegmentPostings → List Call → SegmentPostings
+unfolding called
+cursorAfter bs t c [] = c
+cursorAfter bs t c (call ∷ cs) = cursorAfter bs t (called c bs t call .cursor) cs
+
+-- ---- answers as numbers
+
+-- the number and the values of each case of an answer: 0, document, frequency, blocks unpacked, entries read; or a refusal's number
+-- and zeros
+unfoldable pub numbers : Answer → List ℕ
+numbers (At doc freq unpacked entries) = 0 ∷ doc ∷ freq ∷ unpacked ∷ entries ∷ []
+numbers (Refused n) = n ∷ 0 ∷ 0 ∷ 0 ∷ 0 ∷ []
+
+unfoldable pub allNumbers : List Answer → List ℕ
+unfolding numbers
+allNumbers [] = []
+allNumbers (a ∷ rest) = numbers a ++ allNumbers rest
+
+-- the same of the model's answer, with entries read
+unfoldable pub shownNumbers : Shown → ℕ → List ℕ
+shownNumbers (at doc freq unpacked) entries = 0 ∷ doc ∷ freq ∷ unpacked ∷ entries ∷ []
+shownNumbers (refused n) entries = n ∷ 0 ∷ 0 ∷ 0 ∷ 0 ∷ []
+
+-- the model's position after each call
+unfoldable pub positionsFrom : List ℕ → State → List Call → List ℕ
+unfolding after
+positionsFrom ds s [] = []
+positionsFrom ds s (call ∷ cs) = let s′ : State = after ds s call in s′ .position ∷ positionsFrom ds s′ cs
+
+-- .. and after opening
+unfoldable pub positions : List ℕ → List Call → List ℕ
+unfolding positionsFrom
+positions ds cs = model.opened .position ∷ positionsFrom ds model.opened cs
+
+-- the model's answers over a list of n documents, each with the entries that lead to the block of its position
+unfoldable pub modelNumbers : ℕ → List Shown → List ℕ → List ℕ
+unfolding shownNumbers entriesRead
+modelNumbers n [] ps = []
+modelNumbers n (a ∷ rest) [] = []
+modelNumbers n (a ∷ rest) (p ∷ ps) = shownNumbers a (entriesRead n p) ++ modelNumbers n rest ps
