@@ -19,18 +19,14 @@ use Rattle.format.specs.SkipEntry.{hasFreq}
 use Rattle.format.specs.Written.{image}
 use Rattle.format.specs.Accepted.{keptIn}
 use Rattle.format.specs.Reading.{reading, soundness, docsOf, freqsOf}
-use Rattle.format.specs.Counts.{countBelow, total}
-use Rattle.format.specs.Model.{after, answers}
-use Rattle.format.specs.Model as model
+use Rattle.format.specs.Counts.{total}
+use Rattle.format.specs.Model.{answers}
+use Rattle.format.proofs.IdsBelow.{idsBelow}
 use Rattle.format.proofs.Lists.{AllBelow}
 use Rattle.format.proofs.Accepted.{written-ok}
-use Rattle.format.proofs.Blocks.{docs-rising}
 use Rattle.format.proofs.ReadFreqs.{readFreqs}
 use Rattle.format.proofs.ReadsBack.{ReadsBack}
-use Rattle.format.proofs.Requested.{sound-requested, same-docs}
-use Rattle.format.proofs.Sound.{sound-image, sound-blocks}
 use Rattle.format.proofs.Totals.{sumBelow, total-below}
-use Rattle.format.proofs.Visited.{seek-goes}
 use Rattle.serializer.specs.declared.Answer.the-variants.{Bytes}
 use Rattle.serializer.specs.Writer as writer
 use Rattle.serializer.specs.Writer.{listing}
@@ -39,11 +35,9 @@ use Rattle.serializer.proofs.WholeList.{whole-list-writes, whole-list-sound, wh
 use Rattle.segment_postings.specs.declared.Answer.{Answer}
 use Rattle.segment_postings.specs.declared.Moved.{Moved}
 use Rattle.segment_postings.specs.declared.SegmentPostings.{SegmentPostings}
-use Rattle.segment_postings.specs.Cursor.{position, opened, ranking}
+use Rattle.segment_postings.specs.Cursor.{opened, ranking}
 use Rattle.segment_postings.specs.Called.{shown}
-use Rattle.segment_postings.proofs.Agrees.{opening-agrees}
-use Rattle.segment_postings.proofs.SeekAgrees.{seeking-agrees}
-use Rattle.segment_postings.proofs.Sought.{ranking-found}
+use Rattle.segment_postings.proofs.RankCounts.{rank-ids}
 use Rattle.postings.specs.MixedCalls.{MadeCall, Called}
 use Rattle.postings.proofs.FirstPromise.{bytes-answered}
 use Rattle.postings.proofs.ThirdPromise.{callsOf, third-promise}
@@ -94,17 +88,8 @@ module _ (mode : ℕ) (recording : Bool) (ds fs skips postings output : List ℕ
 
 module _ (mode count : ℕ) (bs : List ℕ) (sound : soundness mode count bs ≡ 0) (target : ℕ) (most : target ≤ TERMINATED) where
   -- `rank` counts the documents below the target
-  pub rank-counts : ranking mode count bs target ≡ ok (countBelow target (docsOf (reading (record { mode = mode; requested = 1; count = count }) bs .blocks)))
-  unfolding position model.opened
-  rank-counts =
-      let t : Term = record { mode = mode; requested = 0; count = count } in
-      let docs : List ℕ = docsOf (reading t bs .blocks) in
-      let s = sound-image t bs (sound-requested mode 0 count bs (omega arith) sound) in
-      let p = opening-agrees s in
-      let q = seeking-agrees s (p .1) target most in
-      let goes = seek-goes 0 docs model.opened target (docs-rising (sound-blocks s)) most in
-      let there : position (q .0) ≡ countBelow target docs = omega (arith, q .1 .same-position, goes) in
-      ranking-found mode count bs target most (p .2) (q .2) ∙ ap ok (there ∙ ap (countBelow target) (same-docs mode 0 count bs (omega arith) sound))
+  pub rank-counted : ranking mode count bs target ≡ ok (length (idsBelow target (docsOf (reading (record { mode = mode; requested = 1; count = count }) bs .blocks))))
+  rank-counted = rank-ids mode count bs target sound most
 
   -- `total` sums their frequencies
   pub total-sums : total mode count bs target

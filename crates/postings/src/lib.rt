@@ -42,6 +42,10 @@
 //     match rank(image, 1, 3, 300) { Value::Is(n) => .., Value::Refused(why) => .. }      // documents below 300
 //     match total(image, 1, 3, 300) { Value::Is(n) => .., Value::Refused(why) => .. }     // the sum of their frequencies
 //
+// A WHOLE LIST, into two slices that are long enough; the image is validated before a place is written:
+//
+//     match read(image, term, &mut docs, &mut freqs) { Value::Is(n) => .., Value::Refused(why) => .. }
+//
 // ADMISSION. An image that somebody else wrote is sound or not; the parts of one with full blocks are parts of the caller's slice:
 //
 //     let why = validate(image, 1, 3);                                 // 0 where it is sound
@@ -69,6 +73,7 @@ pub use segment_postings::layout::posting_bytes;
 pub use segment_postings::layout::skip_bytes;
 pub use segment_postings::open;
 pub use segment_postings::rank;
+pub use segment_postings::read;
 pub use segment_postings::seek;
 pub use segment_postings::seek_by_lending;
 pub use segment_postings::seek_mut;
