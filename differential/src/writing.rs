@@ -34,17 +34,20 @@ pub fn check(list: &List, single: bool) -> Outcome {
     }
 }
 
-/// What is asked before any document: the mode, then, of a whole list, as many ids as frequencies.
+/// What is asked before any document: the mode, then as many ids as frequencies.
 pub fn check_beginning() -> Outcome {
     let list =
         |mode, ids| List { mode, record: true, ids: vec![TERMINATED; ids], freqs: vec![0; 2] };
     for mode in [2, 3, 255] {
         run(By::List, &list(mode, 3), [0; 3], Err(1))?;
-        run(By::Docs(5), &list(mode, 2), [0; 3], Err(1))?;
+        for ids in [2, 3] {
+            run(By::Docs(5), &list(mode, ids), [0; 3], Err(1))?;
+        }
     }
     for mode in [0, 1] {
         for ids in [0, 1, 3] {
             run(By::List, &list(mode, ids), [0; 3], Err(14))?;
+            run(By::Docs(5), &list(mode, ids), [0; 3], Err(14))?;
         }
     }
     Ok(())
