@@ -10,6 +10,8 @@ pub mod damage;
 pub mod images;
 #[cfg(feature = "linked")]
 pub mod linked;
+#[cfg(feature = "linked-bench")]
+pub mod linked_bench;
 pub mod lists;
 pub mod oracle;
 mod postings;

@@ -129,6 +129,15 @@ impl Opener {
         }
     }
 
+    /// Seeks in order, with the documents and the frequencies that they come to in two slices.
+    pub fn seek_into(&self, requested: u8, targets: &[u32], docs: &mut [u32], freqs: &mut [u32]) {
+        let mut cursor = self.open(requested);
+        for ((&target, doc), freq) in targets.iter().zip(docs).zip(freqs) {
+            make(Call::Seek(target), &mut cursor);
+            (*doc, *freq) = answer(&cursor);
+        }
+    }
+
     /// The number of ids below the target, by a fresh cursor.
     pub fn rank(&self, target: u32) -> u64 {
         assert!(target <= TERMINATED);

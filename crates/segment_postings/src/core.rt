@@ -144,12 +144,7 @@ pub(crate) fn land(
 }
 
 // Opens a list at its first document: questions 1 to 4, then entry 0, if any, and block 0.
-pub(crate) fn open_in(
-    image: &[u8],
-    term: Term,
-    docs: &mut [u32; 128],
-    freqs: &mut [u32; 128],
-) -> Reached
+pub fn open_in(image: &[u8], term: Term, docs: &mut [u32; 128], freqs: &mut [u32; 128]) -> Reached
     ensures { λ r. ⌜ Reaches (opening (now (image .entry)) term) (now (docs .entry)) (now (freqs .entry)) (now (docs .exit)) (now (freqs .exit)) r ⌝ }
 {
     match lay_out(image, term) {
@@ -206,7 +201,7 @@ pub(crate) fn leave(
 }
 
 // Steps to the next document: in the held block, or to the first of the next one; at the end nowhere.
-pub(crate) fn step_in(
+pub fn step_in(
     held: Held,
     image: &[u8],
     term: Term,

@@ -15,6 +15,8 @@ mod segment_postings;
 pub mod validate;
 mod whole;
 
+pub use crate::core::open_in;
+pub use crate::core::step_in;
 pub use crate::counts::total;
 pub use crate::lending::advance_by_lending;
 pub use crate::lending::advance_mut;
@@ -22,6 +24,7 @@ pub use crate::lending::seek_by_lending;
 pub use crate::lending::seek_mut;
 pub use crate::seeks::rank;
 pub use crate::seeks::seek;
+pub use crate::seeks::seek_in;
 pub use crate::segment_postings::advance;
 pub use crate::segment_postings::doc;
 pub use crate::segment_postings::open;

@@ -85,7 +85,7 @@ fn seek_behind(
 
 // Seeks to the first document, not before the present one, that is at least the target; if there is none, to the end. At the end
 // nothing changes, whatever the target.
-pub(crate) fn seek_in(
+pub fn seek_in(
     held: Held,
     image: &[u8],
     term: Term,

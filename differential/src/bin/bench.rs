@@ -32,6 +32,8 @@ fn main() {
     let target = |i: usize| i as u32 * stretch + rng.below(stretch.into()) as u32;
     let targets: Vec<u32> = (0..SEEKS).map(target).collect();
     seek(&image, &opener, &targets);
+    #[cfg(feature = "linked-bench")]
+    seek_on_core(&image, &opener, &targets);
 }
 
 /// Gaps of 1 to 19 and frequencies of 1 to 10, recorded.
@@ -124,6 +126,20 @@ fn seek(image: &Image, opener: &Opener, targets: &[u32]) {
             }
         }
     }
+}
+
+/// The library's seeks as its own loops make them, without a copy of the cursor: both sides store
+/// document and frequency of each answer in two slices.
+#[cfg(feature = "linked-bench")]
+fn seek_on_core(image: &Image, opener: &Opener, targets: &[u32]) {
+    use differential::linked_bench::seeks;
+    let [mut docs, mut freqs, mut found_docs, mut found_freqs] = [(); 4].map(|_| vec![0; SEEKS]);
+    let mut rust = || opener.seek_into(1, targets, &mut docs, &mut freqs);
+    let mut core = || {
+        assert_eq!(seeks(image, 1, targets, &mut found_docs, &mut found_freqs), SEEKS as u64);
+    };
+    report("seek into two slices", SEEKS, &mut [("Rust", &mut rust), ("core", &mut core)]);
+    assert!((&found_docs, &found_freqs) == (&docs, &freqs), "the answers differ");
 }
 
 type Side<'a> = (&'a str, &'a mut dyn FnMut());
