@@ -37,6 +37,13 @@
 //
 // `advance_by_lending` and `seek_by_lending` take and hand back the cursor by value and make their call on a lent one.
 //
+// Loops over many calls copy no cursor where they hold its arrays themselves, and its numbers beside them:
+//
+//     match open_in(image, term, &mut docs, &mut freqs) { Reached::At(held) => .., Reached::Refused(why) => .. }
+//     match seek_in(held, image, term, 300, &mut docs, &mut freqs) { Reached::At(held) => .., Reached::Refused(why) => .. }
+//
+// and `step_in` alike; the document is docs[held.place], but at the end, where the position is the count, there is none.
+//
 // COUNTS. From a fresh cursor:
 //
 //     match rank(image, 1, 3, 300) { Value::Is(n) => .., Value::Refused(why) => .. }      // documents below 300
@@ -62,7 +69,9 @@ pub use crate::calls::run_calls;
 pub use format::TERMINATED;
 pub use format::Term;
 pub use segment_postings::Answer;
+pub use segment_postings::Held;
 pub use segment_postings::Moved;
+pub use segment_postings::Reached;
 pub use segment_postings::SegmentPostings;
 pub use segment_postings::Value;
 pub use segment_postings::advance;
@@ -72,11 +81,14 @@ pub use segment_postings::doc;
 pub use segment_postings::layout::posting_bytes;
 pub use segment_postings::layout::skip_bytes;
 pub use segment_postings::open;
+pub use segment_postings::open_in;
 pub use segment_postings::rank;
 pub use segment_postings::read;
 pub use segment_postings::seek;
 pub use segment_postings::seek_by_lending;
+pub use segment_postings::seek_in;
 pub use segment_postings::seek_mut;
+pub use segment_postings::step_in;
 pub use segment_postings::term_freq;
 pub use segment_postings::total;
 pub use segment_postings::validate::validate;
