@@ -41,7 +41,16 @@ fn upper_word(p: usize, o: usize, w: usize) -> usize
     if 32 < o + w { p + 16 } else { p }
 }
 
-// The four values of a row, one of each lane. They begin at bit row * w of their lanes, whose words lie side by side.
+// The value that begins at bit o of the word at byte p and may go on in the word at byte q.
+fn lane_at(bytes: &[u8], p: usize, q: usize, o: u32, mask: u32) -> u32
+    requires { ⌜ (p + 4 ≤ length (now bytes)) × ((q + 4 ≤ length (now bytes)) × (o < 32)) ⌝ }
+    ensures { λ r. ⌜ ((w : ℕ) → w ≤ 32 → mask ≡ 2 ^ w - 1 → r ≡ fromWords (word (now (bytes .entry)) p) (word (now (bytes .entry)) q) o w) ⌝ }
+{
+    value_at(word_at(bytes, p), word_at(bytes, q), o, mask)
+}
+
+// The four values of a row, one of each lane. They begin at bit row * w of their lanes, whose words lie side by side. All are read
+// before the first is stored, so that the compiler may take them together.
 fn unpack_row(bytes: &[u8], row: usize, w: usize, mask: u32, values: &mut [u32])
     requires { ⌜ RowThere w row mask (now bytes) (now values) ⌝ }
     ensures { λ _. ⌜ Fills (4 * row) (4 * row + 4) (unpackedAt w (now (bytes .entry))) (now (values .entry)) (now (values .exit)) ⌝ }
@@ -52,14 +61,14 @@ fn unpack_row(bytes: &[u8], row: usize, w: usize, mask: u32, values: &mut [u32])
     let up = upper_word(at, o, w);
     let shift = o as u32;
     let first = 4 * row;
-    for m in 0..4 {
-        values[first + m] = value_at(
-            word_at(bytes, at + 4 * m),
-            word_at(bytes, up + 4 * m),
-            shift,
-            mask,
-        );
-    }
+    let a = lane_at(bytes, at, up, shift, mask);
+    let b = lane_at(bytes, at + 4, up + 4, shift, mask);
+    let c = lane_at(bytes, at + 8, up + 8, shift, mask);
+    let d = lane_at(bytes, at + 12, up + 12, shift, mask);
+    values[first] = a;
+    values[first + 1] = b;
+    values[first + 2] = c;
+    values[first + 3] = d;
 }
 
 // All rows of a block whose values have bits.

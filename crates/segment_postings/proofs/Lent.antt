@@ -24,6 +24,7 @@ use Rattle.segment_postings.specs.declared.Laid.the-variants as laid-as
 use Rattle.segment_postings.specs.declared.Loaded.{Loaded}
 use Rattle.segment_postings.specs.declared.Loaded.the-variants as loaded-as
 use Rattle.segment_postings.specs.declared.Search.the-variants as search-as
+use Rattle.segment_postings.specs.declared.Answer.{Answer}
 use Rattle.segment_postings.specs.declared.Answer.the-variants as answer-as
 use Rattle.segment_postings.specs.declared.Reached.{Reached}
 use Rattle.segment_postings.specs.declared.Reached.the-variants as reached-as
@@ -208,16 +209,35 @@ unfolding cursorOf heldOf
 same-cursor c e = rw e
 
 -- an answer with its cursor
-pub moved-at : (t : Term) (before : SegmentPostings) {o : Outcome SegmentPostings} {c : SegmentPostings} → o ≡ ok c
-    → moved t before o ≡ record { answer = answerAt t c; cursor = c }
+pub moved-at : (t : Term) (before : SegmentPostings) {o : Outcome SegmentPostings} {a : Answer} {c m : SegmentPostings}
+    → a ≡ answerAt t c → m ≡ c → o ≡ ok c → record { answer = a; cursor = m } ≡ moved t before o
 unfolding moved
-moved-at t before e = rw e
+moved-at t before answers same e = rw (e, answers, same)
 
 pub moved-nowhere : (t : Term) (before : SegmentPostings) {o : Outcome SegmentPostings} {docs freqs docs′ freqs′ : List ℕ} {r : Reached} {n : ℕ}
     → Reaches o docs freqs docs′ freqs′ r → r ≡ reached-as.Refused n
     → moved t before o ≡ record { answer = answer-as.Refused n; cursor = before }
 unfolding moved
 moved-nowhere t before k e = rw (reached-nowhere k e)
+
+-- .. and the cursor that was taken apart, put together again: the arrays are as they were
+pub moved-back : (t : Term) (before : SegmentPostings) {o : Outcome SegmentPostings} {docs′ freqs′ : List ℕ} {r : Reached} {n : ℕ} {h : Held} {m : SegmentPostings}
+    → Reaches o (before .docs) (before .freqs) docs′ freqs′ r → r ≡ reached-as.Refused n → h ≡ heldOf before → m ≡ cursorOf h docs′ freqs′
+    → record { answer = answer-as.Refused n; cursor = m } ≡ moved t before o
+unfolding moved orBefore
+moved-back t before {o} {docs′} {freqs′} {n = n} {m = m} k e s p = rw (nowhere, kept)
+  where
+    nowhere : o ≡ refused n
+    nowhere = reached-nowhere k e
+
+    docs-kept : docs′ ≡ before .docs
+    docs-kept = rw nowhere at (k .docs-after)
+
+    freqs-kept : freqs′ ≡ before .freqs
+    freqs-kept = rw nowhere at (k .freqs-after)
+
+    kept : m ≡ before
+    kept = p ∙ rw (docs-kept, freqs-kept) (same-cursor before s)
 
 -- a landing is at its block's first place
 pub landing-first : (t : Term) (bs : List ℕ) (l : Layout) (target b at least entries unpacked : ℕ) {c : SegmentPostings}

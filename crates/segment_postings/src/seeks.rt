@@ -6,13 +6,14 @@ use crate::Moved;
 use crate::Reached;
 use crate::SegmentPostings;
 use crate::Value;
+use crate::core::answer_at;
 use crate::core::at_end;
 use crate::core::in_bounds;
 use crate::core::leave;
 use crate::core::open_in;
 use crate::layout::full_blocks;
+use crate::segment_postings::cursor_of;
 use crate::segment_postings::held_of;
-use crate::segment_postings::moved_to;
 use block_search::search_block;
 use format::COMPRESSION_BLOCK_SIZE;
 use format::STATE_BROKEN;
@@ -120,11 +121,18 @@ pub fn seek(cursor: SegmentPostings, image: &[u8], term: Term, target: u32) -> M
 {
     let mut docs = cursor.docs;
     let mut freqs = cursor.freqs;
-    match seek_in(held_of(cursor), image, term, target, &mut docs, &mut freqs) {
-        Reached::At(held) => moved_to(held, term, docs, freqs),
+    let was = held_of(cursor);
+    match seek_in(was, image, term, target, &mut docs, &mut freqs) {
+        Reached::At(held) => {
+            let answer = answer_at(held, term, &docs, &freqs);
+            Moved {
+                answer,
+                cursor: cursor_of(held, docs, freqs),
+            }
+        }
         Reached::Refused(n) => Moved {
             answer: Answer::Refused(n),
-            cursor,
+            cursor: cursor_of(was, docs, freqs),
         },
     }
 }

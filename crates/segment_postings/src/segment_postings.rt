@@ -17,8 +17,8 @@ use format::TERMINATED;
 use format::Term;
 ghost use mathlib.Core.Path.{_≡_};
 ghost use mathlib.Core.List.{List};
-ghost use Prim.Native.Nat.{ℕ, _<_};
-ghost use Rattle.segment_postings.specs.Cursor.{blank, answerAt, opened, advanced, valueAt, docAt, freqAt};
+ghost use Prim.Native.Nat.{ℕ};
+ghost use Rattle.segment_postings.specs.Cursor.{blank, opened, advanced, valueAt, docAt, freqAt};
 ghost use Rattle.segment_postings.specs.Calls.{cursorOf, heldOf, valued};
 
 // The numbers of a cursor.
@@ -36,7 +36,7 @@ pub(crate) fn held_of(cursor: SegmentPostings) -> Held
 }
 
 // Puts a cursor together again.
-fn cursor_of(held: Held, docs: [u32; 128], freqs: [u32; 128]) -> SegmentPostings
+pub(crate) fn cursor_of(held: Held, docs: [u32; 128], freqs: [u32; 128]) -> SegmentPostings
     ensures { λ r. ⌜ r ≡ cursorOf held docs freqs ⌝ }
 {
     SegmentPostings {
@@ -48,17 +48,6 @@ fn cursor_of(held: Held, docs: [u32; 128], freqs: [u32; 128]) -> SegmentPostings
         last_doc: held.last_doc,
         unpacked: held.unpacked,
         entries: held.entries,
-    }
-}
-
-// A cursor with its answer.
-pub(crate) fn moved_to(held: Held, term: Term, docs: [u32; 128], freqs: [u32; 128]) -> Moved
-    requires { ⌜ held .place < 128 ⌝ }
-    ensures { λ r. ⌜ r ≡ record { answer = answerAt term (cursorOf held docs freqs); cursor = cursorOf held docs freqs } ⌝ }
-{
-    Moved {
-        answer: answer_at(held, term, &docs, &freqs),
-        cursor: cursor_of(held, docs, freqs),
     }
 }
 
@@ -86,7 +75,13 @@ pub fn open(image: &[u8], term: Term) -> Moved
     let mut docs = blank.docs;
     let mut freqs = blank.freqs;
     match open_in(image, term, &mut docs, &mut freqs) {
-        Reached::At(held) => moved_to(held, term, docs, freqs),
+        Reached::At(held) => {
+            let answer = answer_at(held, term, &docs, &freqs);
+            Moved {
+                answer,
+                cursor: cursor_of(held, docs, freqs),
+            }
+        }
         Reached::Refused(n) => Moved {
             answer: Answer::Refused(n),
             cursor: blank,
@@ -100,11 +95,18 @@ pub fn advance(cursor: SegmentPostings, image: &[u8], term: Term) -> Moved
 {
     let mut docs = cursor.docs;
     let mut freqs = cursor.freqs;
-    match step_in(held_of(cursor), image, term, &mut docs, &mut freqs) {
-        Reached::At(held) => moved_to(held, term, docs, freqs),
+    let was = held_of(cursor);
+    match step_in(was, image, term, &mut docs, &mut freqs) {
+        Reached::At(held) => {
+            let answer = answer_at(held, term, &docs, &freqs);
+            Moved {
+                answer,
+                cursor: cursor_of(held, docs, freqs),
+            }
+        }
         Reached::Refused(n) => Moved {
             answer: Answer::Refused(n),
-            cursor,
+            cursor: cursor_of(was, docs, freqs),
         },
     }
 }

@@ -1,11 +1,11 @@
 -- `segment_postings::segment_postings::advance` meets its contract: where the core came to, put together, is where the definition
 -- comes to.
 -- Assumes nothing.
-use mathlib.Core.Path.{_≡_, sym, ap, _∙_}
+use mathlib.Core.Path.{_≡_, sym, ap}
 use Rattle.segment_postings.specs.declared.SegmentPostings.{SegmentPostings}
 use Rattle.segment_postings.specs.Cursor.{stepping, advanced}
 use Rattle.segment_postings.specs.Calls.{cursorOf}
-use Rattle.segment_postings.proofs.Lent.{reaches-as, reached-at, same-cursor, moved-at, moved-nowhere}
+use Rattle.segment_postings.proofs.Lent.{reaches-as, reached-at, same-cursor, moved-at, moved-back}
 use Rattle.segment_postings.proofs.Near.{stepping-near}
 use borrow.Author.Needs.{needs}
 use Rattle.segment_postings.proofs.segment_postings.advance.Statement.{statement}
@@ -31,27 +31,35 @@ same c =
     let s = h .before .before .before .before in
     ap (λ (x : SegmentPostings). stepping x (s .args .image .now) (s .args .term)) (sym (same-cursor (s .args .cursor) (h .held-of .ensures)))
 
-moved-to-requires : tie.Need-moved-to-requires
+answer-at-requires : tie.Need-answer-at-requires
 unfolding cursorOf
-moved-to-requires c κs =
-    let h = c .before in
+answer-at-requires c κs =
+    let h = c .before .before .before in
     stepping-near _ _ _ (reached-at (h .before .before .step-in .ensures) (h .held .given .1)) .0
+
+cursor-of-requires : tie.Need-cursor-of-requires
+cursor-of-requires c κs = search needs
 
 enum-known-n : tie.Need-enum-known-n
 enum-known-n c = search needs
 
+cursor-of-requires-2 : tie.Need-cursor-of-requires-2
+cursor-of-requires-2 c κs = search needs
+
 returns : tie.Need-returns
 unfolding advanced
 returns c =
-    let h = c .before .before in
+    let h = c .before .before .before .before .before in
     let s = h .before .before in
-    c .moved-to .ensures ∙ sym (moved-at _ _ (reached-at (reaches-as (same s) (s .step-in .ensures)) (h .held .given .1)))
+    moved-at _ _ (c .before .answer-at .ensures) (c .cursor-of .ensures)
+    (reached-at (reaches-as (same s) (s .step-in .ensures)) (h .held .given .1))
 
 returns-2 : tie.Need-returns-2
 unfolding advanced
 returns-2 c =
-    let s = c .before .before .before in
-    sym (moved-nowhere _ _ (reaches-as (same s) (s .step-in .ensures)) (c .before .n .given .1))
+    let s = c .before .before .before .before in
+    moved-back _ _ (reaches-as (same s) (s .step-in .ensures)) (c .before .before .n .given .1) (s .before .before .before .held-of .ensures)
+    (c .cursor-of2 .ensures)
 
 pub advance-spec : {M : Type 1} → statement M
 advance-spec =
@@ -60,7 +68,9 @@ advance-spec =
     held-of-requires
     step-in-requires
     enum-known-held
-    moved-to-requires
+    answer-at-requires
+    cursor-of-requires
     enum-known-n
+    cursor-of-requires-2
     returns
     returns-2)

@@ -1,6 +1,6 @@
 -- `segment_postings::segment_postings::open` meets its contract: where the core came to, put together, is where the definition comes to.
 -- Assumes nothing.
-use mathlib.Core.Path.{sym, _∙_}
+use mathlib.Core.Path.{sym}
 use native.Mathlib.Omega.{arith}
 use Rattle.segment_postings.specs.Cursor.{opened, blank}
 use Rattle.segment_postings.specs.Calls.{cursorOf}
@@ -18,11 +18,14 @@ open-in-requires c κs = search needs
 enum-known-held : tie.Need-enum-known-held
 enum-known-held c = search needs
 
-moved-to-requires : tie.Need-moved-to-requires
+answer-at-requires : tie.Need-answer-at-requires
 unfolding cursorOf
-moved-to-requires c κs =
-    let h = c .before in
+answer-at-requires c κs =
+    let h = c .before .before .before in
     omega (arith, opening-first _ _ (reached-at (h .before .before .open-in .ensures) (h .held .given .1)))
+
+cursor-of-requires : tie.Need-cursor-of-requires
+cursor-of-requires c κs = search needs
 
 enum-known-n : tie.Need-enum-known-n
 enum-known-n c = search needs
@@ -30,8 +33,9 @@ enum-known-n c = search needs
 returns : tie.Need-returns
 unfolding opened
 returns c =
-    let h = c .before .before in
-    c .moved-to .ensures ∙ sym (moved-at _ _ (reached-at (h .before .before .open-in .ensures) (h .held .given .1)))
+    let h = c .before .before .before .before .before in
+    moved-at _ _ (c .before .answer-at .ensures) (c .cursor-of .ensures)
+    (reached-at (h .before .before .open-in .ensures) (h .held .given .1))
 
 returns-2 : tie.Need-returns-2
 unfolding opened
@@ -46,7 +50,8 @@ open-spec =
     blank-requires
     open-in-requires
     enum-known-held
-    moved-to-requires
+    answer-at-requires
+    cursor-of-requires
     enum-known-n
     returns
     returns-2)
