@@ -9,7 +9,7 @@ use Rattle.format.specs.Basics.{putAt}
 use Rattle.format.proofs.Area.{length-putAt, putAt-nil, putAt-one, putAt-append}
 use Rattle.segment_postings.specs.declared.Answer.{Answer}
 use Rattle.segment_postings.specs.declared.Answer.the-variants.{At, Refused}
-use Rattle.segment_postings.proofs.Agrees.{shown}
+use Rattle.segment_postings.specs.Called.{shown}
 use Rattle.listing.specs.Output.{decimal, field, line, Puts}
 use Rattle.listing.proofs.Decimal.{field-most, line-is, line-none}
 

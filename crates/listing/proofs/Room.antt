@@ -21,7 +21,7 @@ use Rattle.serializer.specs.Pieces.{headOf}
 use Rattle.serializer.specs.Writer.{blocksOf}
 use Rattle.serializer.specs.Whole.{fullBlocks, imageFrom}
 use Rattle.serializer.proofs.Pieces.{head-none, head-some, image-length}
-use Rattle.serializer.proofs.ListBlocks.{postings-most, entries-length, image-from}
+use Rattle.serializer.proofs.ListBlocks.{postings-most, full-skips, image-from}
 use Rattle.serializer.proofs.WholeList.{HasRoom}
 
 kept : keptIn 1 true ≡ WithFreqs
@@ -54,8 +54,8 @@ module _ (ds fs : List ℕ) (few : length ds ≤ 16384) (small : AllBelow (2 ^ 3
   full = length ds / 128
 
   skips-most : length (blocksOf (keptIn 1 true) full 0 ds fs .skips) ≤ 1024
-  unfolding entrySize
-  skips-most = rw (kept, entries-length WithFreqs full ds fs) (omega arith)
+  unfolding entrySize fullBlocks
+  skips-most = rw (kept, full-skips WithFreqs ds fs) (omega arith)
 
   postings-few : length (blocksOf (keptIn 1 true) full 0 ds fs .postings) ≤ 131072
   postings-few = omega (arith, postings-most (keptIn 1 true) full 0 ds fs)

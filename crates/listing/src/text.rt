@@ -4,7 +4,7 @@ use compression::area::put;
 use segment_postings::Answer;
 ghost use Prim.Native.Nat.{_+_, _≤_};
 ghost use lib.ListN.{length};
-ghost use Rattle.segment_postings.proofs.Agrees.{shown};
+ghost use Rattle.segment_postings.specs.Called.{shown};
 ghost use Rattle.listing.specs.Output.{field, line, Puts};
 
 // Puts a number's decimal digits and the byte behind them.

@@ -4,7 +4,7 @@
 use Prim.Native.Nat.{_-_, _≤_}
 use native.Mathlib.Omega.{arith}
 use borrow.Author.Needs.{needs}
-use Rattle.segment_postings.proofs.Agrees.{shown}
+use Rattle.segment_postings.specs.Called.{shown}
 use Rattle.listing.proofs.Decimal.{line-most}
 use Rattle.listing.proofs.Putting.{puts-length, puts-then}
 use Rattle.listing.proofs.Walked.{Walked, walk-first, walk-begins, walk-room, walk-steps, walk-ends}
