@@ -1,9 +1,1 @@
-pub mod Filled
 pub mod InPlace
-pub mod Numbers
-pub mod Pending
-pub mod Room
-pub mod Rows
-pub mod Runs
-pub mod Shifts
-pub mod Width

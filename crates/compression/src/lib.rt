@@ -1,9 +1,8 @@
-// Blocks of 128 numbers and lists of short ones, as bytes: the port of compression/mod.rs, compression/vint.rs and common/vint.rs.
+// The values of a block, their packed size, and bytes put into a lent area: the port of compression/mod.rs, less the packer
+// (crate bitpacking) and the tail's numbers (crate vint).
 
 pub mod area;
-pub mod bitpacking;
 pub mod values;
-pub mod vint;
 
 ghost use mathlib.Core.Path.{_≡_};
 ghost use Prim.Native.Nat.{_*_};

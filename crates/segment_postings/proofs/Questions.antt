@@ -28,7 +28,7 @@ use Rattle.format.proofs.Bitpacking.{unpack-length}
 use Rattle.format.proofs.Opened.{fullDocs-is, fullFreqs-unread, fullFreqs-read, fullBlock-is, numbers-is, tailFreqs-read, tailBlock-is}
 use Rattle.format.proofs.ValuesCode.{restored-not-strict}
 use Rattle.format.proofs.Vints.{numbers-used}
-use Rattle.compression.specs.Numbers.{behind, filled}
+use Rattle.vint.specs.Numbers.{behind, filled}
 use Rattle.segment_postings.specs.declared.Found.{Found}
 use Rattle.segment_postings.specs.declared.load.Taken.{Taken}
 use Rattle.segment_postings.specs.Cursor.{loadBlock}

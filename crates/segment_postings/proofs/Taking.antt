@@ -22,9 +22,9 @@ use Rattle.format.specs.Vint.{Numbers, tailNumbers}
 use Rattle.format.specs.Layout.{fullBlocks, tailLength}
 use Rattle.format.specs.Reading.{fullFreqs, tailFreqs, tailHasFreq, tailBlock}
 use Rattle.format.proofs.Bitpacking.{unpack-length}
-use Rattle.compression.specs.Numbers.{behind, filled}
-use Rattle.compression.specs.Packed.{Unpacked}
-use Rattle.compression.proofs.Room.{narrow}
+use Rattle.bitpacking.specs.Packed.{Unpacked}
+use Rattle.bitpacking.proofs.Room.{narrow}
+use Rattle.vint.specs.Numbers.{behind, filled}
 use Rattle.segment_postings.specs.declared.Found.{Found}
 use Rattle.segment_postings.specs.declared.load.Taken.{Taken}
 use Rattle.segment_postings.specs.Taken.{fullTaken, tailTaken, askedFreqs, asked, Takes, ValuesTaken}

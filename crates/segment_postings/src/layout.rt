@@ -1,7 +1,6 @@
 // Where the parts of an image lie: questions 1 to 4 of document 01, and the split into skip bytes and posting bytes.
 
 use crate::Laid;
-use compression::vint::read_vint_u64;
 use format::COMPRESSION_BLOCK_SIZE;
 use format::COUNT_TOO_LARGE;
 use format::Layout;
@@ -13,6 +12,7 @@ use format::UNKNOWN_MODE;
 use format::VInt;
 use skip::entry_size;
 use skip::record_option;
+use vint::read_vint_u64;
 ghost use mathlib.Core.Path.{_≡_};
 ghost use Prim.Native.Nat.{_-_, _/_, _≤_};
 ghost use Rattle.format.specs.Layout.{layout, sized};

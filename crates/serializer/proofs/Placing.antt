@@ -18,7 +18,7 @@ use Rattle.format.specs.Bitpacking.{pack, bitsF, largest, width}
 use Rattle.format.specs.Values.{gaps, reduced, rising}
 use Rattle.format.specs.Written.{onlyIf}
 use Rattle.format.specs.SkipEntry.{hasFreq, entrySize, writeEntry}
-use Rattle.compression.specs.Packed.{roomFor, Packed}
+use Rattle.bitpacking.specs.Packed.{roomFor, Packed}
 use Rattle.skip.specs.Entry.{entryPut}
 use Rattle.serializer.specs.declared.Placed.{Placed}
 use Rattle.serializer.specs.declared.Placed.the-variants.{At, NoRoom}

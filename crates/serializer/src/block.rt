@@ -1,9 +1,9 @@
 // A full block: its skip entry into one lent area, its packed values into the other.
 
 use crate::Placed;
+use bitpacking::num_bits;
+use bitpacking::pack;
 use compression::area::within;
-use compression::bitpacking::num_bits;
-use compression::bitpacking::pack;
 use compression::compressed_block_size;
 use compression::values::reduce_docs;
 use compression::values::reduce_freqs;

@@ -6,7 +6,7 @@ use crate::block::last_of;
 use crate::block::write_block;
 use crate::image::image_fits;
 use crate::image::put_image;
-use compression::bitpacking::num_bits;
+use bitpacking::num_bits;
 use compression::compressed_block_size;
 use compression::values::reduce_docs;
 use compression::values::reduce_freqs;

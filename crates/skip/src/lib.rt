@@ -1,7 +1,7 @@
 // Skip entries, read and written, and what they hold by record option.
+use bitpacking::u32_from_le_bytes;
 use compression::area::put;
 use compression::area::within;
-use compression::bitpacking::u32_from_le_bytes;
 use compression::compressed_block_size;
 use format::BlockInfo;
 use format::IndexRecordOption;

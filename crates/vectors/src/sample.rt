@@ -1,6 +1,6 @@
 // The sample's layout: where the parts of a case are, and the numbers in it.
 
-use compression::bitpacking::u32_from_le_bytes;
+use bitpacking::u32_from_le_bytes;
 ghost use mathlib.Core.Path.{_≡_};
 ghost use Prim.Native.Nat.{_+_, _*_, _≤_, _<_};
 ghost use lib.ListN.{length, take};

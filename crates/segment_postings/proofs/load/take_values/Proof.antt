@@ -15,7 +15,7 @@ use lib.Dec.{eqb}
 use Rattle.format.specs.declared.Next.the-variants.{At}
 use Rattle.format.specs.Bitpacking.{unpack}
 use Rattle.format.specs.Vint.{tailNumbers}
-use Rattle.compression.specs.Numbers.{behind}
+use Rattle.vint.specs.Numbers.{behind}
 use Rattle.format.specs.SkipEntry.{blockSize}
 use Rattle.format.specs.Layout.{fullBlocks}
 use Rattle.format.specs.Reading.{tailHasFreq}

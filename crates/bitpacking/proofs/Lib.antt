@@ -1,0 +1,6 @@
+pub mod Filled
+pub mod Pending
+pub mod Room
+pub mod Rows
+pub mod Shifts
+pub mod Width
