@@ -1,8 +1,8 @@
 -- A loop that overwrites a list from the front: what its next store makes of it.
 -- Assumes nothing.
-use mathlib.Core.Path.{_≡_, refl, sym, ap, _∙_}
+use mathlib.Core.Path.{_≡_, refl}
 use mathlib.Core.List.{List, append-nil}
-use Prim.Native.Nat.{ℕ, _+_, _≤_, _<_}
+use Prim.Native.Nat.{ℕ, _+_, _≤_}
 use native.Mathlib.Omega.{arith}
 use lib.ListN.{length, set, drop-of-length-le}
 use Rattle.format.specs.Basics.{tabulate, tabulateFrom}

@@ -6,8 +6,8 @@
 -- Assumes nothing.
 use mathlib.Core.Path.{_≡_, refl, sym, ap, ap₂, _∙_}
 use mathlib.Core.List.{List}
-use Prim.Native.Nat.{ℕ, suc, _+_, _-_, _*_, _/_, _%_, _^_, _≤_, _<_}
-use native.Mathlib.Nat.{mod-lt, mul-assoc, add-comm, add-assoc, mul-add-div-right, add-mul, add-zero, zero-mul, one-mul, mod-one, div-one, lt-of-lt-of-le, le-of-lt}
+use Prim.Native.Nat.{ℕ, _+_, _-_, _*_, _/_, _%_, _^_, _≤_, _<_}
+use native.Mathlib.Nat.{mod-lt, mul-assoc, add-comm, mul-add-div-right, add-mul, add-zero, zero-mul, one-mul, mod-one, div-one, lt-of-lt-of-le, le-of-lt}
 use native.Mathlib.Omega.{arith}
 use lib.Dec.{lit<}
 use lib.ListN.{getD}

@@ -2,7 +2,7 @@
 --     row-inside    the words that a row is read from lie within the block
 --     row-value     what is made of a lane's two words there is the lane's value
 -- Assumes nothing.
-use mathlib.Core.Path.{_≡_, refl, sym, ap, ap₂, _∙_}
+use mathlib.Core.Path.{_≡_, sym, ap, ap₂, _∙_}
 use mathlib.Core.List.{List}
 use Prim.Native.Nat.{ℕ, _+_, _-_, _*_, _/_, _%_, _^_, _≤_, _<_}
 use native.Mathlib.Nat.{mul-le-mul-right, lt-of-not-le, suc-mul}

@@ -5,9 +5,9 @@
 --     mask-ones     the mask of w ones
 --     upper-drops   where the value ends within the first word, the next one doesn't matter
 -- Assumes nothing.
-use mathlib.Core.Path.{_≡_, refl, sym, ap, _∙_}
+use mathlib.Core.Path.{_≡_, sym, ap, _∙_}
 use Prim.Native.Nat.{ℕ, suc, _+_, _-_, _*_, _/_, _%_, _^_, _≤_, _<_}
-use native.Mathlib.Nat.{mod-eq-of-lt, mul-comm, one-mul, add-comm, add-assoc, mul-assoc, mul-add, div-add-mod', mul-add-mod-self-right, add-mul-div-right, mul-mod-left, pow-suc, mul-right-comm, mul-left-comm, add-zero, mod-le, lt-trans, lt-of-lt-of-le, lt-of-le-of-lt}
+use native.Mathlib.Nat.{mod-eq-of-lt, mul-comm, one-mul, add-comm, add-assoc, mul-assoc, div-add-mod', mul-add-mod-self-right, add-mul-div-right, mul-mod-left, pow-suc, mul-right-comm, add-zero, mod-le, lt-trans, lt-of-lt-of-le, lt-of-le-of-lt}
 use lib.Dec.{lit<}
 use native.Mathlib.Omega.{arith}
 use lib.Bits.{bitOr, bitAnd, or-shifted-r, and-mask}

@@ -1,16 +1,15 @@
 -- The bits of a number and its leading zeros make up the word.
 -- Assumes nothing.
-use mathlib.Core.Path.{_≡_, refl, sym, ap, _∙_}
-use mathlib.Core.List.{List, [], _∷_}
+use mathlib.Core.Path.{_≡_, refl, sym, ap}
+use mathlib.Core.List.{List}
 use Prim.Native.Nat.{ℕ, zero, suc, _+_, _-_, _/_, _≤_, _<_, max}
 use native.Mathlib.Nat.{suc-add, zero-add, suc-ne-zero, eq-sub-of-add-eq}
 use native.Mathlib.Numerals.{add-one, one-add}
 use native.Mathlib.Omega.{arith}
-use borrow.Author.Tests.{eq-eqb, ne-eqb}
+use borrow.Author.Tests.{ne-eqb}
 use lib.Count.{leadingZeros}
 use lib.ListN.{length, getD, drop, drop-of-length-le}
 use lib.Seq.{drop-cons}
-use Rattle.format.specs.Basics.{choose}
 use Rattle.format.specs.Bitpacking.{bitsF, largest, width}
 
 pub bits-and-zeros : (f n : ℕ) → bitsF f n + leadingZeros f n ≡ f

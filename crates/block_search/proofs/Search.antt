@@ -35,13 +35,6 @@ module _ (arr : List ℕ) (target base step : ℕ) where
   unfolding pivotsBelow
   pivots-more n = rw add-one
 
-pub search-le : (arr : List ℕ) (target : ℕ) → searchBlock arr target ≤ 128
-unfolding searchBlock
-search-le arr target =
-    let b₁ : ℕ = pivotsBelow arr target 0 16 7 * 16 in
-    let b₂ : ℕ = b₁ + pivotsBelow arr target b₁ 2 7 * 2 in
-    omega (arith, pivots-le arr target 0 16 7, pivots-le arr target b₁ 2 7, pivots-le arr target b₂ 1 2)
-
 same-test : (a b c d : ℕ) → a < b ↔ c < d → ltb a b ≡ ltb c d
 same-test a b c d iff = by-test (ltb c d) refl
   where

@@ -27,10 +27,6 @@ pub unpack-length : (w : ℕ) (bs : List ℕ) → length (unpack w bs) ≡ 128
 unfolding unpack
 unpack-length w bs = tabulate-length 128 (unpackedAt w bs)
 
-pub pack-bytes : (w : ℕ) (vs : List ℕ) → AllBelow 256 (pack w vs)
-unfolding pack
-pack-bytes w vs = tabulate-below (16 * w) (packedAt w vs) (λ i h. mod-lt _ (zero-lt-suc 255))
-
 pub unpack-below : (w : ℕ) (bs : List ℕ) → AllBelow (2 ^ w) (unpack w bs)
 unfolding unpack
 unpack-below w bs = tabulate-below 128 (unpackedAt w bs) (λ i h. mod-lt _ (pow-pos w))

@@ -2,7 +2,7 @@
 -- whether it is 8 for each or 5 tells that frequencies were kept or not. Where there is none the recorded mode stands.
 -- Assumes nothing.
 use mathlib.Core.Bool.{Bool, true, false}
-use mathlib.Core.List.{List, [], _++_}
+use mathlib.Core.List.{List, _++_}
 use mathlib.Core.Path.{_≡_, refl}
 use Prim.Native.Nat.{ℕ, zero, suc, _+_, _-_, _*_, _≤_, _<_, _^_}
 use native.Mathlib.Nat.{add-sub-cancel-left, le-refl, mul-zero, mul-le-mul-right}

@@ -86,9 +86,6 @@ module _ (bs : List ℕ) (bytes : AllBelow 256 bs) where
   word-below p =
       rw word-number (number-below 8 1 (λ i. getD bs i 0) (allBelow-getD bs (zero-lt-suc 255) bytes) 4 p)
 
-  pub laneAt-below : (n p : ℕ) → laneAt n bs p < 2 ^ (32 * n)
-  laneAt-below n p = rw (laneAt-number, mul-comm) (number-below 32 16 (word bs) word-below n p)
-
   -- the words from word j on
   pub laneAt-from : (n p j : ℕ) → j < n
       → laneAt n bs p / 2 ^ (32 * j) ≡ word bs (p + 16 * j) + 2 ^ 32 * laneAt (n - suc j) bs (p + 16 * j + 16)

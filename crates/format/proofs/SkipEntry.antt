@@ -4,9 +4,9 @@
 -- Assumes nothing.
 use mathlib.Core.Bool.{true, false, and-eq-true-iff}
 use mathlib.Core.List.{List, [], _∷_, _++_}
-use mathlib.Core.Path.{_≡_, refl, ap, sym, _∙_}
+use mathlib.Core.Path.{_≡_, refl, sym}
 use Prim.Native.Nat.{ℕ, _+_, _/_, _%_, _^_, _≤_, _<_}
-use native.Mathlib.Nat.{add-zero, add-assoc, mod-eq-of-lt, div-div-eq-div-mul}
+use native.Mathlib.Nat.{add-assoc, mod-eq-of-lt, div-div-eq-div-mul}
 use native.Mathlib.Omega.{arith}
 use borrow.Author.Tests.{leb-true, ltb-true}
 use lib.ListN.{length}
@@ -19,10 +19,6 @@ use Rattle.format.specs.SkipEntry.{hasFreq, entrySize, freqWidthOf, read
 
 -- ---- 32-bit numbers
 
-pub le32-length : (n : ℕ) → length (le32 n) ≡ 4
-unfolding le32
-le32-length n = refl
-
 -- bytes in front move a word's place
 pub word-append : (a bs : List ℕ) (p : ℕ) → word (a ++ bs) (length a + p) ≡ word bs p
 unfolding word
@@ -34,10 +30,6 @@ unfolding word le32
 word-here n rest h =
     let top : n / 16777216 % 256 ≡ n / 16777216 = mod-eq-of-lt (omega arith) in
     omega (arith, div-div-eq-div-mul n 256 256, div-div-eq-div-mul n 65536 256)
-
-pub word-le32 : (n : ℕ) (a rest : List ℕ) → n < 2 ^ 32 → word (a ++ (le32 n ++ rest)) (length a) ≡ n
-word-le32 n a rest h =
-    ap (word (a ++ (le32 n ++ rest))) (sym (add-zero (length a))) ∙ word-append a (le32 n ++ rest) 0 ∙ word-here n rest h
 
 -- ---- entries
 

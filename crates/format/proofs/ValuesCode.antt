@@ -4,7 +4,7 @@
 -- and 2 ^ 32, are those whose remainder is 0; and the remainders of sums are the sums of remainders.
 -- Assumes nothing.
 use mathlib.Core.Path.{_≡_, refl, sym, ap, ap₂, _∙_}
-use mathlib.Core.Bool.{Bool, true, false, not, and-false, and-true, and-eq-true-iff, _&&_ as and}
+use mathlib.Core.Bool.{Bool, true, false, not, and-false, and-true, _&&_ as and}
 use mathlib.Core.List.{List, [], _∷_, _++_, map}
 use mathlib.Core.Logic.{⊎-elim}
 use Prim.Native.Nat.{ℕ, zero, suc, _+_, _-_, _%_, _^_, _≤_, _<_}
@@ -13,7 +13,7 @@ use native.Mathlib.Numerals.{add-one}
 use native.Mathlib.Omega.{arith}
 use lib.Dec.{leb, ltb, eqb}
 use lib.ListN.{take, drop}
-use borrow.Author.Tests.{le-leb, lt-leb, le-ltb, ne-eqb, leb-true, ltb-true, ltb-false}
+use borrow.Author.Tests.{le-leb, lt-leb, le-ltb, ne-eqb, ltb-true, ltb-false}
 use Rattle.format.proofs.Values.{rising-below, countable-below}
 use Rattle.format.specs.Basics.{lastOf, TERMINATED}
 use Rattle.format.specs.Model.{member}
@@ -99,24 +99,11 @@ rising-last strict (suc d) (v ∷ vs) =
     rw (ids-sums strict (suc d) (v ∷ vs), within d .0, within d .1, ← add-one d)
     (rising-sums 0 d (v + reduction strict) (restored strict vs) (behind (d + (v + reduction strict)) (restored strict vs)))
 
--- .. in the strict form, in which no difference is 0
-strict-apart : (vs : List ℕ) → member 0 (restored true vs) ≡ false
-unfolding member restored reduction
-strict-apart [] = refl
-strict-apart (v ∷ vs) = rw (ne-eqb 0 (v + 1) (omega arith)) (strict-apart vs)
-
-pub rising-strict : (least : ℕ) (vs : List ℕ) → rising least (ids true least vs) ≡ ltb (lastOf 0 (ids true least vs)) TERMINATED
-rising-strict least vs = rw (rising-last true least vs, strict-apart (drop (1 - least) vs))
-
--- .. in the non-strict form, in which the values are the differences
+-- in the non-strict form the values are the differences
 pub restored-not-strict : (vs : List ℕ) → restored false vs ≡ vs
 unfolding restored reduction
 restored-not-strict [] = refl
 restored-not-strict (v ∷ vs) = ap₂ (λ (k : ℕ) (ks : List ℕ). k ∷ ks) (add-zero v) (restored-not-strict vs)
-
-pub rising-not-strict : (least : ℕ) (vs : List ℕ)
-    → rising least (ids false least vs) ≡ and (not (member 0 (drop (1 - least) vs))) (ltb (lastOf 0 (ids false least vs)) TERMINATED)
-rising-not-strict least vs = rw (rising-last false least vs, restored-not-strict (drop (1 - least) vs))
 
 -- differences that are not 0, of sums below TERMINATED, pass question 7
 sums-countable : (z d : ℕ) (fs : List ℕ) → lastOf z (idsFrom 0 d fs) < TERMINATED → countable fs ≡ not (member 0 fs)

@@ -16,7 +16,7 @@ use Rattle.format.proofs.Vints.{vint-length-pos, vint-length-le, Read, 
 use Rattle.format.specs.declared.VInt.{VInt}
 use Rattle.format.specs.declared.VInt.the-variants.{Number, Malformed}
 use Rattle.format.specs.Basics.{choose}
-use Rattle.format.specs.Vint.{vintF, vint, vints, onward, readF, below, readVint, Numbers, inFront, tailNumber, tailNumbers}
+use Rattle.format.specs.Vint.{vintF, vint, vints, onward, readF, below, readVint, inFront, tailNumber, tailNumbers}
 
 -- a number's upper groups are one group less
 div-below : (f n : ℕ) → n < 128 ^ suc f → n / 128 < 128 ^ f

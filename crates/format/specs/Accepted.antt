@@ -1,8 +1,8 @@
 -- Which lists are accepted (questions 1 and 11 to 14), and the image of an accepted one.
 -- Assumes nothing.
-use mathlib.Core.Bool.{Bool, true, false, not, _&&_ as and, _||_ as or}
+use mathlib.Core.Bool.{Bool, not, _&&_ as and, _||_ as or}
 use mathlib.Core.List.{List, [], _∷_}
-use Prim.Native.Nat.{ℕ, zero, suc, _+_}
+use Prim.Native.Nat.{ℕ, _+_}
 use lib.ListN.{length}
 use lib.Dec.{eqb, leb, ltb}
 use Rattle.format.specs.declared.IndexRecordOption.{IndexRecordOption}

@@ -2,7 +2,6 @@
 -- lowest bit first; 32-bit word j of lane m is little-endian at byte 16 * j + 4 * m. So a lane is one number of 32 * w bits,
 -- whose digits to the base 2 ^ w are its values.
 -- Assumes nothing.
-use mathlib.Core.Bool.{Bool, true, false}
 use mathlib.Core.List.{List, [], _∷_}
 use Prim.Native.Nat.{ℕ, zero, suc, _+_, _*_, _/_, _%_, _^_, max}
 use lib.ListN.{getD}

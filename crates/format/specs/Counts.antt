@@ -1,8 +1,8 @@
 -- Rank and total: how many documents lie below a target, and the sum of their frequencies.
 -- Assumes nothing.
-use mathlib.Core.Bool.{Bool, true, false, _||_ as or}
+use mathlib.Core.Bool.{_||_ as or}
 use mathlib.Core.List.{List, [], _∷_}
-use Prim.Native.Nat.{ℕ, zero, suc, _+_}
+use Prim.Native.Nat.{ℕ, _+_}
 use lib.ListN.{length, take}
 use lib.Dec.{eqb, leb, ltb}
 use Rattle.format.specs.Basics.{Outcome, ok, refused, ask, choose, TERMINATED}

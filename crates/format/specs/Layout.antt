@@ -1,8 +1,8 @@
 -- The parts of an image: questions 1 to 4.
 -- Assumes nothing.
-use mathlib.Core.Bool.{Bool, true, false, _&&_ as and}
-use mathlib.Core.List.{List, [], _∷_}
-use Prim.Native.Nat.{ℕ, zero, suc, _+_, _-_, _*_, _/_, _%_}
+use mathlib.Core.Bool.{true, _&&_ as and}
+use mathlib.Core.List.{List}
+use Prim.Native.Nat.{ℕ, _+_, _-_, _*_, _/_, _%_}
 use lib.ListN.{length, take, drop}
 use lib.Dec.{eqb, leb}
 use Rattle.format.specs.declared.IndexRecordOption.{IndexRecordOption}

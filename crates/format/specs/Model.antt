@@ -1,9 +1,9 @@
 -- The reference model of a list of calls (document 01 calls it the book). It is fed the documents and frequencies of an image
 -- and the calls, and keeps a position and the set of blocks in which the position has been. Nothing of a cursor enters it.
 -- Assumes nothing.
-use mathlib.Core.Bool.{Bool, true, false, _||_ as or}
+use mathlib.Core.Bool.{Bool, false, _||_ as or}
 use mathlib.Core.List.{List, [], _∷_}
-use Prim.Native.Nat.{ℕ, zero, suc, _+_, _/_, min}
+use Prim.Native.Nat.{ℕ, _+_, _/_, min}
 use lib.ListN.{length, drop, getD}
 use lib.Dec.{eqb, leb}
 use Rattle.format.specs.Basics.{choose, TERMINATED}

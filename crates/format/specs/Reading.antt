@@ -8,7 +8,7 @@ use lib.Dec.{eqb, ltb}
 use Rattle.format.specs.declared.IndexRecordOption.{IndexRecordOption}
 use Rattle.format.specs.declared.BlockInfo.{BlockInfo}
 use Rattle.format.specs.declared.Layout.{Layout}
-use Rattle.format.specs.Basics.{Outcome, ok, refused, andThen, ask, choose, lastOf, TERMINATED}
+use Rattle.format.specs.Basics.{Outcome, ok, refused, andThen, ask, lastOf, TERMINATED}
 use Rattle.format.specs.Refusal.{entryBroken, docsNotRising, freqOutOfRange, numberBroken, bytesLeft}
 use Rattle.format.specs.Vint.{Numbers, tailNumbers}
 use Rattle.format.specs.Bitpacking.{unpack}

@@ -3,7 +3,7 @@
 -- Assumes nothing.
 use mathlib.Core.Bool.{Bool, true, false, _&&_ as and}
 use mathlib.Core.List.{List, [], _∷_, _++_}
-use Prim.Native.Nat.{ℕ, zero, suc, _+_, _*_, _/_, _%_}
+use Prim.Native.Nat.{ℕ, _+_, _*_, _/_, _%_}
 use lib.ListN.{getD}
 use lib.Dec.{eqb, leb, ltb}
 use Rattle.format.specs.declared.IndexRecordOption.{IndexRecordOption}

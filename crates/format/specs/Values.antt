@@ -4,7 +4,7 @@
 -- Assumes nothing.
 use mathlib.Core.Bool.{Bool, true, false, _&&_ as and}
 use mathlib.Core.List.{List, [], _∷_, map}
-use Prim.Native.Nat.{ℕ, zero, suc, _+_, _-_}
+use Prim.Native.Nat.{ℕ, _+_, _-_}
 use lib.Dec.{leb, ltb}
 use Rattle.format.specs.Basics.{TERMINATED}
 

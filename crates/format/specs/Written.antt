@@ -2,7 +2,7 @@
 -- blocks, each documents before frequencies; then the tail's id differences, then its frequencies unreduced.
 -- Assumes nothing.
 use mathlib.Core.Bool.{Bool, true, false}
-use mathlib.Core.List.{List, [], _∷_, _++_}
+use mathlib.Core.List.{List, [], _++_}
 use Prim.Native.Nat.{ℕ, zero, suc, _+_, _/_}
 use lib.ListN.{length, take, drop}
 use Rattle.format.specs.declared.IndexRecordOption.{IndexRecordOption}

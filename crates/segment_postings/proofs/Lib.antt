@@ -26,7 +26,6 @@ pub mod Turns
 pub mod Types
 pub mod Unopened
 pub mod Walk
-pub mod WalkShows
 pub mod WalkStands
 pub mod WalkSteps
 pub mod WholeAsked

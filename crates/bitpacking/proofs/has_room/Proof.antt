@@ -1,7 +1,6 @@
 -- `bitpacking::has_room` meets its contract: each way out is one of the two tests.
 -- Assumes nothing.
 use mathlib.Core.Path.{sym}
-use native.Mathlib.Omega.{arith}
 use Rattle.bitpacking.proofs.Room.{too-wide, narrow}
 use borrow.Author.Needs.{needs}
 use Rattle.bitpacking.proofs.has_room.Statement.{statement}

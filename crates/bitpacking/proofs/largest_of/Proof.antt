@@ -1,7 +1,7 @@
 -- `bitpacking::largest_of` meets its contract. The loop's invariant: the largest so far and the largest of the rest
 -- are the largest of all.
 -- Assumes nothing.
-use mathlib.Core.Path.{_≡_, refl, sym, ap, _∙_}
+use mathlib.Core.Path.{_≡_, sym, ap, _∙_}
 use Prim.Native.Nat.{ℕ, _≤_, _+_, _-_, max}
 use native.Mathlib.Omega.{arith}
 use lib.ListN.{length, drop}

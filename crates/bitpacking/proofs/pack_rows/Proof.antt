@@ -1,10 +1,9 @@
 -- `bitpacking::pack_rows` meets its contract. The loop's invariant: the lanes hold what the rows so far make, and the
 -- area is filled up to the words written. After 32 rows that is the whole block, with nothing left in the lanes.
 -- Assumes nothing.
-use mathlib.Core.Path.{_≡_, refl, sym, ap, _∙_}
-use Prim.Native.Nat.{ℕ, _≤_, _+_, _*_, _-_, _^_}
+use mathlib.Core.Path.{_≡_, refl, ap, _∙_}
+use Prim.Native.Nat.{ℕ, _≤_, _+_, _*_, _-_}
 use native.Mathlib.Omega.{arith}
-use borrow.Author.Needs.{needs}
 use native.Mathlib.Nat.{mul-le-mul-right}
 use lib.ListN.{length}
 use lib.Pow.{pow-pos}

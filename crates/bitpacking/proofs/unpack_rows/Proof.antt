@@ -1,7 +1,7 @@
 -- `bitpacking::unpack_rows` meets its contract. The loop's invariant: the values are filled up to the row.
 -- Assumes nothing.
 use mathlib.Core.Path.{_≡_, refl, ap, _∙_}
-use Prim.Native.Nat.{ℕ, _≤_, _+_, _*_, _-_}
+use Prim.Native.Nat.{ℕ, _≤_, _*_, _-_}
 use native.Mathlib.Omega.{arith}
 use lib.ListN.{length}
 use Rattle.format.specs.Bitpacking.{unpack, unpackedAt}
