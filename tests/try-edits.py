@@ -2,7 +2,8 @@
 """Tries the wrong programs of tests/edits, and of crates/NAME/must-fail, by the edit loop: `tests/try-edits.py NAME...`.
 
 Each edit is applied to a copy of the repository; `rt dev NAME` must prove the crate without it and refuse it with it. An edit takes
-seconds here and a whole check of its crate in `rt ci`, so the gate has the more telling ones only. Ends with 1 where one is proved."""
+seconds here and a whole check of its crate in `rt ci`, so the gate has the more telling ones only. Ends with 1 where one is proved, with
+2 where no crate is named."""
 
 import pathlib
 import re
@@ -20,10 +21,22 @@ def check(copy, crate):
 
 
 def changes(edit):
-    """The file, the old line and the new one, of each change."""
-    text = edit.read_text()
-    file = re.search(r"^file: (.*)$", text, re.M).group(1).strip()
-    return [(file, old, new) for old, new in re.findall(r"^old: (.*)\nnew: ?(.*)$", text, re.M)]
+    """The file, the old text and the new one, of each change. A `file:` line holds for the pairs after it, as in rt."""
+    found = []
+    file = old = ""
+    for word, rest in re.findall(r"^(file|old|new): ?(.*)$", edit.read_text(), re.M):
+        if word == "file":
+            file = rest
+        elif word == "old":
+            old = rest
+        elif not file or not old:
+            sys.exit(f"{edit}: a 'new:' line without its 'file:' and 'old:'")
+        else:
+            found.append((file, old, rest))
+            old = ""
+    if not found:
+        sys.exit(f"{edit}: no 'old:' and 'new:' pair")
+    return found
 
 
 def refused(copy, crate, edit):
@@ -44,6 +57,9 @@ def refused(copy, crate, edit):
 
 
 def main():
+    if not sys.argv[1:]:
+        print("usage: tests/try-edits.py NAME...", file=sys.stderr)
+        sys.exit(2)
     failed = 0
     with tempfile.TemporaryDirectory() as folder:
         copy = pathlib.Path(folder) / "copy"
