@@ -17,8 +17,8 @@ fn input_buffer() -> [u8; 65537]
     [0; 65537]
 }
 
-// Room for the longest listing: the header and 16,385 lines of 63 bytes at most. The type alone says its length: a proof of a clause that says it
-// would count it out.
+// Room for the longest listing: the header and 16,385 lines of 63 bytes at most. Its length is in the type alone: to prove a clause that
+// says it the prover would count up to it.
 fn output_buffer() -> [u8; 1048576] {
     [0; 1048576]
 }

@@ -11,12 +11,15 @@
 //     let begun = new_term(1, true);                                   // mode 1, frequencies recorded
 //     let step = write_doc(begun.state, 3, 1, &mut skips, &mut postings);
 //     let step = write_doc(step.state, 7, 2, &mut skips, &mut postings);
-//     let closed = close_term(step.state, 2, &mut skips, &mut postings, &mut output);
+//     let closed = close_term(step.state, 2, &skips, &postings, &mut output);
 //     match closed.answer { Written::Bytes(n) => .., Written::Refused(why) => .. }
 //
-// or the whole list at once, which refuses before it writes a byte:
+// Each step's answer is such a `Written` too, with 0 bytes. Or the whole list at once, which refuses before it writes a byte:
 //
 //     match write_list(1, true, &ids, &freqs, &mut skips, &mut postings, &mut output) { Written::Bytes(n) => .., Written::Refused(why) => .. }
+//
+// For n documents 8 * (n / 128) bytes of `skips`, 1008 * (n / 128) of `postings` and 10 * n of `output` are always enough; without
+// recorded frequencies 5 * (n / 128), 496 * (n / 128) and 5 * n. Where the list needs more than is lent, that is 15.
 //
 // READING. The image, with its recorded mode, its count and the requested mode in a `Term`, is lent to each call. The cursor goes by
 // value and comes back beside the answer:
@@ -26,38 +29,45 @@
 //     let moved = advance(opened.cursor, image, term);                 // the next
 //     let moved = seek(moved.cursor, image, term, 300);                // the first at or above 300, not before the present one
 //     match moved.answer { Answer::At { doc, freq, unpacked, entries } => .., Answer::Refused(why) => .. }
-//     let d = doc(moved.cursor, image, term);                          // the document at the position, 2147483647 at the end
-//     let f = term_freq(moved.cursor, image, term);                    // its frequency, 0 at the end
+//     match doc(moved.cursor, image, term) { Value::Is(d) => .., Value::Refused(why) => .. }          // 2147483647 at the end
+//     match term_freq(moved.cursor, image, term) { Value::Is(f) => .., Value::Refused(why) => .. }    // 0 at the end
 //
 // or is lent, and changed in the caller's own record:
 //
 //     let mut cursor = opened.cursor;
-//     let answer = advance_mut(&mut cursor, image, term);
+//     let answer = advance_mut(&mut cursor, image, term);              // an `Answer`
 //     let answer = seek_mut(&mut cursor, image, term, 300);
 //
-// `advance_by_lending` and `seek_by_lending` take and hand back the cursor by value and make their call on a lent one.
+// or is taken and handed back by value, with the call made on a lent one in between:
+//
+//     let moved = advance_by_lending(moved.cursor, image, term);
+//     let moved = seek_by_lending(moved.cursor, image, term, 300);
 //
 // Loops over many calls copy no cursor where they hold its arrays themselves, and its numbers beside them:
 //
+//     let mut docs = [TERMINATED; 128];
+//     let mut freqs = [1u32; 128];
 //     match open_in(image, term, &mut docs, &mut freqs) { Reached::At(held) => .., Reached::Refused(why) => .. }
+//     match step_in(held, image, term, &mut docs, &mut freqs) { Reached::At(held) => .., Reached::Refused(why) => .. }
 //     match seek_in(held, image, term, 300, &mut docs, &mut freqs) { Reached::At(held) => .., Reached::Refused(why) => .. }
 //
-// and `step_in` alike; the document is docs[held.place], but at the end, where the position is the count, there is none.
+// The document is docs[held.place]; at the end, where the position 128 * held.block + held.place is the count, there is none.
 //
-// COUNTS. From a fresh cursor:
+// COUNTS. From a fresh cursor; a target above 2147483647 is 10. They ask their questions of what they read alone, and so answer of images
+// too that aren't sound: `rank` unpacks the first block and the one that it lands on, `total` the blocks up to the target.
 //
 //     match rank(image, 1, 3, 300) { Value::Is(n) => .., Value::Refused(why) => .. }      // documents below 300
 //     match total(image, 1, 3, 300) { Value::Is(n) => .., Value::Refused(why) => .. }     // the sum of their frequencies
 //
-// A WHOLE LIST, into two slices that are long enough; the image is validated before a place is written:
+// A WHOLE LIST, into two slices of at least `term.count` places; the image is validated before a place is written:
 //
-//     match read(image, term, &mut docs, &mut freqs) { Value::Is(n) => .., Value::Refused(why) => .. }
+//     match read(image, term, &mut all_docs, &mut all_freqs) { Value::Is(n) => .., Value::Refused(why) => .. }
 //
-// ADMISSION. An image that somebody else wrote is sound or not; the parts of one with full blocks are parts of the caller's slice:
+// ADMISSION. An image that somebody else wrote is sound or not; its parts, as its skip length splits it, are parts of the caller's slice:
 //
 //     let why = validate(image, 1, 3);                                 // 0 where it is sound
-//     let skips = skip_bytes(image, 3);
-//     let blocks = posting_bytes(image, 3);
+//     let skips = skip_bytes(image, 3);                                // empty where the skip length is refused, or there is no full block
+//     let blocks = posting_bytes(image, 3);                            // the rest; empty where the skip length is refused
 //
 // A LIST OF CALLS in one, coded as numbers (calls.rt): for comparisons with another engine and for measuring.
 //

@@ -27,6 +27,7 @@ struct Front {
     whole: bool,
 }
 
+// Adds up frequencies, document by document, up to the first document at or above the target.
 fn front_below(docs: &[u32], freqs: &[u32], target: u32) -> Front
     requires { ⌜ (length (now docs) ≤ 128) × (length (now docs) ≤ length (now freqs)) ⌝ }
     ensures { λ r. ⌜ FrontOf (now (docs .entry)) (now (freqs .entry)) target r ⌝ }

@@ -27,7 +27,7 @@ ghost use Prim.Native.Nat.{ℕ, _/_, _≤_, _<_};
 ghost use Rattle.segment_postings.specs.Cursor.{inBounds, atPlace, within, behind, seeking, sought, ranking};
 ghost use Rattle.segment_postings.specs.Calls.{cursorOf, Reaches, valued};
 
-// The place p of the held block.
+// The numbers of a cursor at another place of its held block.
 fn at_place(held: Held, place: usize) -> Held
     ensures { λ r. ⌜ ((docs freqs : List ℕ) → cursorOf r docs freqs ≡ atPlace (cursorOf held docs freqs) place) ⌝ }
 {

@@ -24,6 +24,7 @@ pub enum Parsed {
     Malformed,
 }
 
+// A byte as a wider number, still below 256, so that sums of its multiples have room.
 fn wide(byte: u8) -> usize
     ensures { λ r. ⌜ (r ≡ byte) × (r < 256) ⌝ }
 {
