@@ -9,11 +9,16 @@
 -- and of document 01:
 --   "That promise is a single claim about the whole list of calls, those by value and those on the lent cursor mixed, and not one for
 --   each call. After a refusal the next call gets the same cursor again."
+--   "Where `doc` and `term_freq` are calls of their own, they give that document and that frequency."
 -- What the promise asks is the model of crates/format/specs/Model.antt (01: the book). It is fed the documents and frequencies that the
--- definitions read from the image in the requested mode, and the calls; nothing of a cursor enters it. That the size of its set is the
--- number of different blocks in which its positions lie is VisitedBlocks.antt.
+-- definitions read from the image in the requested mode, and the calls; nothing of a cursor enters it. `third-promise` says all of it of
+-- one list: the answers, the cursor after them, what `doc` and `term_freq` give there, and that the model's set, whose size is the
+-- count, is the set of the different blocks in which its positions lie. `doc` and `term_freq` take the cursor by value and leave it, and
+-- every beginning of a list is a list, so they may stand between any two calls.
 -- The argument: each of the four functions meets the definition of its call, whether the cursor goes by value or is lent, so a mixed
--- list answers what its calls answer (`called-are`); and those answer what the model answers (segment_postings, CallsShow.antt).
+-- list answers what its calls answer (`called-are`); those answer what the model answers, and leave a cursor that holds the block of
+-- the model's position (segment_postings, CallsShow.antt); the set is VisitedBlocks.antt's. The calls on two lent arrays are calls by
+-- value (segment_postings, CoreCalls.antt).
 -- Assumes nothing.
 use mathlib.Core.Path.{_≡_, refl, ap, ap₂, _∙_}
 use mathlib.Core.Bool.{true}
@@ -26,7 +31,7 @@ use lib.ListN.{length, getD, length-map}
 use Rattle.format.specs.declared.Term.{Term}
 use Rattle.format.specs.Basics.{Outcome, ok, refused, putAt, TERMINATED}
 use Rattle.format.specs.Reading.{reading, soundness, docsOf, freqsOf}
-use Rattle.format.specs.Model.{Call, step, seek, answers, afterAll}
+use Rattle.format.specs.Model.{Call, step, seek, State, member, answers, afterAll}
 use Rattle.format.specs.Model as model
 use Rattle.format.proofs.Choice.{choose-elim}
 use Rattle.format.proofs.Requested.{sound-requested}
@@ -34,13 +39,14 @@ use Rattle.segment_postings.specs.declared.Answer.{Answer}
 use Rattle.segment_postings.specs.declared.Answer.the-variants.{At, Refused}
 use Rattle.segment_postings.specs.declared.Moved.{Moved}
 use Rattle.segment_postings.specs.declared.SegmentPostings.{SegmentPostings}
-use Rattle.segment_postings.specs.Cursor.{position, moved, answerAt, opened, stepping, seeking, advanced, sought}
+use Rattle.segment_postings.specs.Cursor.{position, moved, answerAt, opened, stepping, seeking, advanced, docAt, freqAt, sought}
 use Rattle.segment_postings.specs.Called.{shown, called, callsFrom, calls, cursorAfter, allNumbers, positions, modelNumbers}
-use Rattle.segment_postings.proofs.CallsShow.{Counts, calls-show, calls-count, calls-numbers}
+use Rattle.segment_postings.proofs.CallsShow.{Counts, calls-show, calls-count, calls-doc, calls-freq, calls-numbers}
 use Rattle.postings.specs.MixedCalls.{Manner, by-value, lent, MadeCall, Meets, handed-back, left-there, Called, none, next, codeOf, Small, ended, stepped, sought as sought-small}
 use Rattle.postings.proofs.Answered.{step-called, lent-step-called, seek-called}
 use Rattle.postings.proofs.ModelAnswers.{entry-most}
 use Rattle.postings.proofs.Ran.{all-taken}
+use Rattle.postings.proofs.VisitedBlocks.{distinct, blocksOf, visited-blocks, visited-distinct}
 use Rattle.postings.specs.RunCalls.{callOf, kindOf, allKnown, modelAnswers, Runs}
 
 -- ---- a mixed list answers what its calls answer
@@ -64,6 +70,10 @@ called-are (next e later) =
 
 -- ---- the promise
 
+-- the model's state after the calls
+abbrev pub stateAfter : List ℕ → Term → List Call → State
+stateAfter bs t cs = afterAll (docsOf (reading t bs .blocks)) model.opened cs
+
 -- `told` are opening's answer and those of the calls, `c` the cursor after them
 pub record Promised (bs : List ℕ) (t : Term) (cs : List Call) (told : List Answer) (c : SegmentPostings) : Type 0 where
   -- document, frequency and blocks unpacked of every answer are the model's, and so are its refusals
@@ -73,7 +83,14 @@ pub record Promised (bs : List ℕ) (t : Term) (cs : List Call) (told : List Ans
       ≡ modelNumbers (t .count) (answers (docsOf (reading t bs .blocks)) (freqsOf (reading t bs .blocks)) cs) (positions (docsOf (reading t bs .blocks)) cs)
   pub entries-most : (i : ℕ) → getD (allNumbers told) (5 * i + 4) 0 ≤ t .count / 128
   -- and after the list the cursor is at the model's position, with as many blocks unpacked as the model has visited
-  pub model-state : Counts t c (afterAll (docsOf (reading t bs .blocks)) model.opened cs)
+  pub model-state : Counts t c (stateAfter bs t cs)
+  -- .. and `doc` and `term_freq` give the document and the frequency at that position, at the end TERMINATED and 0
+  pub model-doc : docAt c bs t ≡ ok (getD (docsOf (reading t bs .blocks)) (stateAfter bs t cs .position) TERMINATED)
+  pub model-freq : freqAt c bs t ≡ ok (getD (freqsOf (reading t bs .blocks)) (stateAfter bs t cs .position) 0)
+  -- the size of the model's set is the number of different blocks in which its positions lie: the set holds no block twice, and a block
+  -- exactly where one of the positions, opening's included, lies in it
+  pub visited-once : distinct (stateAfter bs t cs .visited) ≡ true
+  pub visited-are : (b : ℕ) → member b (stateAfter bs t cs .visited) ≡ member b (blocksOf (positions (docsOf (reading t bs .blocks)) cs))
 
 pub third-promise : (bs : List ℕ) (t : Term) → soundness (t .mode) (t .count) bs ≡ 0 → t .requested ≤ 2
     → {first : Moved} → first ≡ opened bs t
@@ -91,6 +108,10 @@ third-promise bs t sound known opens {made = made} later =
       model-entries = model-entries;
       entries-most = λ i. rw model-entries (entry-most (t .count) (answers docs (freqsOf (reading t bs .blocks)) (callsOf made)) (positions docs (callsOf made)) i);
       model-state = calls-count t bs readable (callsOf made);
+      model-doc = calls-doc t bs readable (callsOf made);
+      model-freq = calls-freq t bs readable (callsOf made);
+      visited-once = visited-distinct docs (callsOf made);
+      visited-are = visited-blocks docs (callsOf made);
     })
 
 -- ---- after a refusal the next call gets the same cursor again

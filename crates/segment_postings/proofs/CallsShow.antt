@@ -1,6 +1,7 @@
 -- The cursor's calls are the model's. Opening on a sound image and then any list of steps and seeks, refused ones too, answers what the
--- model answers, and leaves the cursor at the model's position with as many blocks counted as the model has visited. By induction on
--- the calls: each leaves cursor and model together, a refused one both as they were.
+-- model answers, and leaves the cursor at the model's position with as many blocks counted as the model has visited; `doc` and
+-- `term_freq` give there what the model has at its position. By induction on the calls: each leaves cursor and model together, a
+-- refused one both as they were.
 -- Assumes nothing.
 use mathlib.Core.List.{List, [], _∷_, _++_, map}
 use mathlib.Core.Logic.{⊎-elim}
@@ -25,10 +26,11 @@ use Rattle.segment_postings.specs.declared.Answer.{Answer}
 use Rattle.segment_postings.specs.declared.Answer.the-variants.{At, Refused}
 use Rattle.segment_postings.specs.declared.Moved.{Moved}
 use Rattle.segment_postings.specs.declared.SegmentPostings.{SegmentPostings}
-use Rattle.segment_postings.specs.Cursor.{position, answerAt, moved, opened, stepping, advanced, seeking, sought}
+use Rattle.segment_postings.specs.Cursor.{position, answerAt, moved, opened, stepping, advanced, docAt, freqAt, seeking, sought}
 use Rattle.segment_postings.specs.Called.{shown, called, callsFrom, calls, cursorAfter}
 use Rattle.segment_postings.specs.Called.{numbers, allNumbers, shownNumbers, positionsFrom, positions, modelNumbers}
 use Rattle.segment_postings.proofs.Turns.{moved-ok, opened-is}
+use Rattle.segment_postings.proofs.Holds.{doc-holds, freq-holds}
 use Rattle.segment_postings.proofs.Agrees.{Agrees, docs-count, entries-read, opening-agrees, answer-agrees, stepping-agrees}
 use Rattle.segment_postings.proofs.SeekAgrees.{seeking-end, seeking-refused, seeking-agrees}
 
@@ -164,18 +166,38 @@ pub record Counts (t : Term) (c : SegmentPostings) (m : State) : Type 0 where
   pub unpacked-visited : c .unpacked ≡ length (m .visited)
   pub entries-are : c .entries ≡ entriesRead (t .count) (m .position)
 
+-- after the calls the cursor holds the block of the model's position
+pub calls-stand : (t : Term) (bs : List ℕ) (sound : reading t bs .refusal ≡ 0) (cs : List Call)
+    → Agrees (sound-image t bs sound) (cursorAfter bs t (opened bs t .cursor) cs) (afterAll (docsOf (reading t bs .blocks)) model.opened cs)
+calls-stand t bs sound cs =
+    let s = sound-image t bs sound in
+    let p = opening-agrees s in
+    rw (opened-is, p .2, moved-ok) (from-agrees s (p .1) cs)
+
 pub calls-count : (t : Term) (bs : List ℕ) → reading t bs .refusal ≡ 0 → (cs : List Call)
     → Counts t (cursorAfter bs t (opened bs t .cursor) cs) (afterAll (docsOf (reading t bs .blocks)) model.opened cs)
 calls-count t bs sound cs =
-    let s = sound-image t bs sound in
-    let p = opening-agrees s in
-    let k = from-agrees s (p .1) cs in
-    rw (opened-is, p .2, moved-ok)
-    (record {
+    let k = calls-stand t bs sound cs in
+    record {
       at-position = k .same-position;
       unpacked-visited = k .same-count;
-      entries-are = rw (← k .same-position) (entries-read s (k .holds));
-    })
+      entries-are = rw (← k .same-position) (entries-read (sound-image t bs sound) (k .holds));
+    }
+
+-- what `doc` and `term_freq` then give, as calls of their own
+pub calls-doc : (t : Term) (bs : List ℕ) → reading t bs .refusal ≡ 0 → (cs : List Call)
+    → docAt (cursorAfter bs t (opened bs t .cursor) cs) bs t
+    ≡ ok (getD (docsOf (reading t bs .blocks)) (afterAll (docsOf (reading t bs .blocks)) model.opened cs .position) TERMINATED)
+calls-doc t bs sound cs =
+    let k = calls-stand t bs sound cs in
+    rw (← k .same-position) (doc-holds (sound-image t bs sound) (k .holds))
+
+pub calls-freq : (t : Term) (bs : List ℕ) → reading t bs .refusal ≡ 0 → (cs : List Call)
+    → freqAt (cursorAfter bs t (opened bs t .cursor) cs) bs t
+    ≡ ok (getD (freqsOf (reading t bs .blocks)) (afterAll (docsOf (reading t bs .blocks)) model.opened cs .position) 0)
+calls-freq t bs sound cs =
+    let k = calls-stand t bs sound cs in
+    rw (← k .same-position) (freq-holds (sound-image t bs sound) (k .holds))
 
 -- ---- the answers as numbers, entries read included
 

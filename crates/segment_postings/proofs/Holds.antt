@@ -1,6 +1,6 @@
 -- A cursor that holds a block of a sound image: its arrays, its last id and its offset are that block's, its numbers are in bounds.
 -- Opening gives one that holds block 0, a step one that holds the same block or the next, and the answer at its position is what the
--- image's documents and frequencies have there.
+-- image's documents and frequencies have there, as are the values of `doc` and `term_freq`.
 -- Assumes nothing.
 use mathlib.Core.Bool.{true}
 use mathlib.Core.List.{List, [], _∷_}
@@ -24,7 +24,7 @@ use Rattle.segment_postings.specs.declared.Answer.the-variants.{At}
 use Rattle.segment_postings.specs.declared.Found.{Found}
 use Rattle.segment_postings.specs.declared.SegmentPostings.{SegmentPostings}
 use Rattle.segment_postings.specs.Cursor.{padded, holding, landing, position, inBounds, answerAt, opening, atPlace}
-use Rattle.segment_postings.specs.Cursor.{leastAfter, leaving, stepping}
+use Rattle.segment_postings.specs.Cursor.{leastAfter, leaving, stepping, valueAt, docAt, freqAt}
 use Rattle.segment_postings.proofs.Landing.{startOf, last-below, start-inside, Lands, search-lands}
 use Rattle.segment_postings.proofs.Turns.{landing-is, answerAt-is, opening-is, leaving-is, stepping-is}
 
@@ -259,4 +259,21 @@ module _ {t : Term} {bs : List ℕ} (s : Sound t bs) {c : SegmentPostings} (k : 
       ⊎-elim
       (λ e. rw (answerAt-is, eq-eqb (position c) (t .count) e, no-doc e, no-freq e))
       (λ h. rw (answerAt-is, ne-eqb (position c) (t .count) (λ e. omega arith), doc-there h, freq-there h))
+      (eq-or-lt-of-le (k .position-most))
+
+  -- the document and the frequency, as calls of their own
+  pub doc-holds : docAt c bs t ≡ ok (getD docs (position c) TERMINATED)
+  unfolding docAt valueAt ask choose
+  doc-holds =
+      ⊎-elim
+      (λ e. rw (holds-inBounds s k, eq-eqb (position c) (t .count) e, no-doc e))
+      (λ h. rw (holds-inBounds s k, ne-eqb (position c) (t .count) (λ e. omega arith), doc-there h))
+      (eq-or-lt-of-le (k .position-most))
+
+  pub freq-holds : freqAt c bs t ≡ ok (getD freqs (position c) 0)
+  unfolding freqAt valueAt ask choose
+  freq-holds =
+      ⊎-elim
+      (λ e. rw (holds-inBounds s k, eq-eqb (position c) (t .count) e, no-freq e))
+      (λ h. rw (holds-inBounds s k, ne-eqb (position c) (t .count) (λ e. omega arith), freq-there h))
       (eq-or-lt-of-le (k .position-most))

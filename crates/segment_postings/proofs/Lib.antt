@@ -3,6 +3,7 @@ pub mod Agrees
 pub mod BlockHeld
 pub mod Bounds
 pub mod CallsShow
+pub mod CoreCalls
 pub mod FoundBlock
 pub mod Holds
 pub mod Landed
