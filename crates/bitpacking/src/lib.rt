@@ -249,12 +249,14 @@ pub fn pack(values: &[u32; 128], width: u8, area: &mut [u8]) -> bool
     true
 }
 
+// The larger of two numbers.
 fn larger(a: u32, b: u32) -> u32
     ensures { λ r. ⌜ r ≡ max a b ⌝ }
 {
     if a < b { b } else { a }
 }
 
+// The largest of some numbers, 0 where there is none.
 fn largest_of(values: &[u32]) -> u32
     ensures { λ r. ⌜ r ≡ largest (now (values .entry)) ⌝ }
 {

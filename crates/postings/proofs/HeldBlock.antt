@@ -1,12 +1,13 @@
 -- A call that does not leave the held block does not look at the image, beyond its length for question 16: on two images of the same
 -- length it answers the same and leaves the same cursor. So a bad block is refused only once it is landed on. The fraud that document 01
--- names beside it, unpacking all at opening, would refuse at opening.
+-- names beside it, unpacking all at opening, would refuse at opening. Last, a lent cursor that came from no image, whose next block
+-- begins before the posting bytes.
 -- Assumes nothing.
 use mathlib.Core.Path.{_≡_, refl}
-use mathlib.Core.List.{List, [], _∷_}
+use mathlib.Core.List.{List, [], _∷_, _++_}
 use Prim.Native.Nat.{ℕ, _+_, _≤_, _<_}
 use borrow.Author.Tests.{eq-eqb, lt-ltb, le-leb, lt-leb}
-use lib.ListN.{length, getD}
+use lib.ListN.{length, getD, replicate}
 use Rattle.format.specs.declared.Term.{Term}
 use Rattle.format.specs.Basics.{ask, choose, TERMINATED}
 use Rattle.format.specs.Model.{step, seek}
@@ -61,3 +62,39 @@ pub refused-once-landed-on :
     ≡ At 0 1 1 1 ∷ At 127 1 1 1 ∷ Refused 8 ∷ Refused 8 ∷ At 127 1 1 1 ∷ []
 unfolding calls pivotsBelow
 refused-once-landed-on = refl
+
+-- ---- a cursor that came from no image
+
+-- two full blocks in mode 0; the posting bytes begin at place 11, and the bytes from place 0 on would pass for the second block's
+abbrev twoBlocks : List ℕ
+twoBlocks = (0x8A ∷ 0x7F ∷ 0 ∷ 0 ∷ 0 ∷ 0x40 ∷ 0x10 ∷ 0x01 ∷ 0 ∷ 0 ∷ 0x41 ∷ 0x03 ∷ []) ++ replicate 15 0
+
+abbrev twoTerm : Term
+twoTerm = record { mode = 0; requested = 0; count = 256 }
+
+-- at the last place of the first block, its next block said to begin at `next`
+abbrev lent : ℕ → SegmentPostings
+lent next = record {
+  docs = replicate 128 127;
+  freqs = replicate 128 1;
+  place = 127;
+  block = 0;
+  next = next;
+  «last_doc» = 127;
+  unpacked = 1;
+  entries = 1;
+}
+
+-- question 5, not what the skip bytes would give
+pub before-the-posting-bytes : advanced (lent 0) twoBlocks twoTerm ≡ record { answer = Refused 5; cursor = lent 0 }
+unfolding advanced
+before-the-posting-bytes = refl
+
+pub just-before : sought (lent 10) twoBlocks twoTerm 128 ≡ record { answer = Refused 5; cursor = lent 10 }
+unfolding sought pivotsBelow
+just-before = refl
+
+-- where they begin, question 5 is answered yes: the block doesn't end on its entry's last id
+pub at-the-posting-bytes : advanced (lent 11) twoBlocks twoTerm ≡ record { answer = Refused 6; cursor = lent 11 }
+unfolding advanced
+at-the-posting-bytes = refl

@@ -26,6 +26,7 @@ use Rattle.segment_postings.specs.declared.SegmentPostings.{SegmentPosti
 use Rattle.segment_postings.specs.Cursor.{padded, holding, landing, position, inBounds, answerAt, opening, atPlace}
 use Rattle.segment_postings.specs.Cursor.{leastAfter, leaving, stepping, valueAt, docAt, freqAt}
 use Rattle.segment_postings.proofs.Landing.{startOf, last-below, start-inside, Lands, search-lands}
+use Rattle.segment_postings.proofs.Lent.{starts-behind}
 use Rattle.segment_postings.proofs.Turns.{landing-is, answerAt-is, opening-is, leaving-is, stepping-is}
 
 pub record Holds {t : Term} {bs : List ℕ} (s : Sound t bs) (c : SegmentPostings) : Type 0 where
@@ -159,13 +160,14 @@ module _ {t : Term} {bs : List ℕ} (s : Sound t bs) where
     -- leaving a full block
     pub leaving-landed : (target : ℕ) → c .block < fullBlocks t
         → (c′ : SegmentPostings) × Landed s target (suc (c .block)) (c .unpacked) c′ × (leaving c bs t target ≡ ok c′)
-    unfolding andThen leastAfter
+    unfolding andThen ask leastAfter
     leaving-landed target h =
         let p = landing-landed target (suc (c .block)) (c .unpacked) h (omega (arith, k .unpacked-most)) in
         let last : ℕ = blockAt blocks (c .block) .last in
         let one-more : min (fullBlocks t) (c .block + 1) ≡ suc (c .block) = omega arith in
         let least : min (last + 1) TERMINATED ≡ last + 1 = omega (arith, last-below s (c .block) h) in
-        (p .0, p .1, rw (leaving-is, s .found, k .next-is, k .last-is, k .entries-are, one-more, least, add-one (c .block)) (p .2))
+        let inside = starts-behind t (s .laid) (suc (c .block)) (startOf (s .laid) bs (suc (c .block))) (omega arith) in
+        (p .0, p .1, rw (leaving-is, s .found, k .next-is, k .last-is, k .entries-are, one-more, least, add-one (c .block), inside) (p .2))
 
     step-leaves : position c < t .count → 128 ≤ c .place + 1 → (c′ : SegmentPostings) × Steps c′ × (leaving c bs t 0 ≡ ok c′)
     unfolding position

@@ -113,4 +113,5 @@ module _ (t : Term) (bs : List ℕ) (l : Layout) (target : ℕ) (small : target 
 pub leaving-placed : (c : SegmentPostings) (bs : List ℕ) (t : Term) (target : ℕ) {d : SegmentPostings} → target ≤ TERMINATED
     → c .block < fullBlocks t → leaving c bs t target ≡ ok d → Placed t target d
 leaving-placed c bs t target small full e =
-    landing-placed t bs _ target small _ _ _ _ _ (omega arith) (andThen-ok _ _ (sym (leaving-is c bs t target) ∙ e) .2)
+    let laid = andThen-ok _ _ (sym (leaving-is c bs t target) ∙ e) in
+    landing-placed t bs _ target small _ _ _ _ _ (omega arith) (ask-ok _ _ _ (laid .2) .1)

@@ -6,13 +6,14 @@ use mathlib.Core.Bool.{true, false}
 use mathlib.Core.Logic.{⊎-elim}
 use Prim.Native.Nat.{ℕ, _+_, _-_, _*_, _/_, _≤_, _<_}
 use native.Mathlib.Nat.{eq-or-lt-of-le}
+use native.Mathlib.Decide.{decLe}
 use native.Mathlib.Omega.{arith}
-use borrow.Author.Tests.{lt-ltb, le-ltb, eqb-false}
-use lib.Dec.{eqb}
+use borrow.Author.Tests.{lt-ltb, le-ltb, le-leb, lt-leb, eqb-false}
+use lib.Dec.{eqb, leb}
 use Rattle.format.specs.declared.Layout.{Layout}
 use Rattle.format.specs.declared.Term.{Term}
 use Rattle.format.specs.Basics.{Outcome, ok, refused, andThen, ask, choose}
-use Rattle.format.specs.Refusal.{stateBroken}
+use Rattle.format.specs.Refusal.{entryBroken, stateBroken}
 use Rattle.format.specs.SkipEntry.{blockSize}
 use Rattle.format.specs.Layout.{layout, fullBlocks, skipBytes}
 use Rattle.format.specs.Reading.{Block}
@@ -28,7 +29,7 @@ use Rattle.segment_postings.specs.declared.Answer.{Answer}
 use Rattle.segment_postings.specs.declared.Answer.the-variants as answer-as
 use Rattle.segment_postings.specs.declared.Reached.{Reached}
 use Rattle.segment_postings.specs.declared.Reached.the-variants as reached-as
-use Rattle.segment_postings.specs.Cursor.{findBlock, loadBlock, holding, landing, position, inBounds, opening, atPlace, leastAfter, leaving, stepping, answerAt, moved}
+use Rattle.segment_postings.specs.Cursor.{findBlock, loadBlock, holding, landing, position, inBounds, opening, atPlace, leastAfter, startsInside, leaving, stepping, answerAt, moved}
 use Rattle.segment_postings.specs.Calls.{laid, searched, counted, orBefore, cursorOf, heldOf, reached, loaded, FindsFrom, BlockLoaded, Reaches}
 use Rattle.segment_postings.proofs.Bounds.{Bounded, bounded}
 use Rattle.segment_postings.proofs.Parts.{laid-out}
@@ -127,7 +128,22 @@ pub held-reached : {o : Outcome SegmentPostings} (h : Held) (docs freqs : List �
 unfolding reached orBefore heldOf cursorOf
 held-reached h docs freqs e = reaches-as e (record { answer = refl; docs-after = refl; freqs-after = refl })
 
--- ---- opening, and another block: questions 1 to 4, and then a landing
+-- ---- opening, and another block: questions 1 to 4, where the block begins, and then a landing
+
+pub starts-tail : (t : Term) (l : Layout) (b at : ℕ) → fullBlocks t ≤ b → startsInside t l b at ≡ true
+unfolding startsInside
+starts-tail t l b at h = rw (le-leb _ _ h)
+
+pub starts-entry : (t : Term) (l : Layout) (b at : ℕ) → b < fullBlocks t → startsInside t l b at ≡ leb (l .postings) at
+unfolding startsInside
+starts-entry t l b at h = rw (lt-leb _ _ h)
+
+-- behind the skip bytes the answer is yes
+pub starts-behind : (t : Term) (l : Layout) (b at : ℕ) → l .postings ≤ at → startsInside t l b at ≡ true
+starts-behind t l b at h = elim (decLe (fullBlocks t) b) [
+  | yes past ↦ starts-tail t l b at past
+  | no some ↦ starts-entry t l b at (omega arith) ∙ le-leb _ _ h
+]
 
 module _ (bs : List ℕ) (t : Term) where
   pub opening-laid : {l : Layout} → layout t bs ≡ ok l → opening bs t ≡ landing t bs l 0 0 (l .postings) 0 0 0
@@ -142,10 +158,16 @@ module _ (bs : List ℕ) (t : Term) where
   opens-from e = record { laid-out = e; block-most = omega arith; inside = laid-out t bs e .inside; entries-most = omega arith }
 
 module _ (c : SegmentPostings) (bs : List ℕ) (t : Term) where
-  pub leaving-laid : (target : ℕ) {l : Layout} {least : ℕ} → layout t bs ≡ ok l → least ≡ leastAfter (c .«last_doc»)
+  pub leaving-laid : (target : ℕ) {l : Layout} {least : ℕ} → layout t bs ≡ ok l → startsInside t l (c .block + 1) (c .next) ≡ true
+      → least ≡ leastAfter (c .«last_doc»)
       → leaving c bs t target ≡ landing t bs l target (c .block + 1) (c .next) least (c .entries) (c .unpacked)
-  unfolding leaving andThen
-  leaving-laid target e least = rw (e, least)
+  unfolding leaving andThen ask
+  leaving-laid target e inside least = rw (e, inside, least)
+
+  pub leaving-early : (target : ℕ) {l : Layout} → layout t bs ≡ ok l → startsInside t l (c .block + 1) (c .next) ≡ false
+      → leaving c bs t target ≡ refused entryBroken
+  unfolding leaving andThen ask
+  leaving-early target e early = rw (e, early)
 
   pub leaving-refused : (target : ℕ) {n : ℕ} → layout t bs ≡ refused n → leaving c bs t target ≡ refused n
   unfolding leaving andThen

@@ -19,7 +19,7 @@ use Rattle.segment_postings.specs.declared.SegmentPostings.{SegmentPosti
 use Rattle.segment_postings.specs.declared.Answer.the-variants.{At}
 use Rattle.segment_postings.specs.declared.Found.{Found}
 use Rattle.segment_postings.specs.Cursor.{tailInfo, findBlock, loadBlock, holding, landing, position, inBounds, answerAt}
-use Rattle.segment_postings.specs.Cursor.{moved, blank, opening, opened, atPlace, leastAfter, leaving, stepping, advanced, placeOf, within, behind, seeking}
+use Rattle.segment_postings.specs.Cursor.{moved, blank, opening, opened, atPlace, leastAfter, startsInside, leaving, stepping, advanced, placeOf, within, behind, seeking}
 
 pub findBlock-zero : (option : IndexRecordOption) (skips bs : List ℕ) (target b at least entries : ℕ)
     → findBlock option skips bs target zero b at least entries
@@ -72,7 +72,9 @@ opening-is bs t = refl
 
 pub leaving-is : (c : SegmentPostings) (bs : List ℕ) (t : Term) (target : ℕ)
     → leaving c bs t target
-    ≡ andThen (layout t bs) λ l. landing t bs l target (c .block + 1) (c .next) (leastAfter (c .«last_doc»)) (c .entries) (c .unpacked)
+    ≡ (andThen (layout t bs) λ l.
+    ask (startsInside t l (c .block + 1) (c .next)) entryBroken λ _.
+    landing t bs l target (c .block + 1) (c .next) (leastAfter (c .«last_doc»)) (c .entries) (c .unpacked))
 unfolding leaving
 leaving-is c bs t target = refl
 

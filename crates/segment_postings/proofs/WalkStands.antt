@@ -28,7 +28,7 @@ use Rattle.segment_postings.proofs.BlockHeld.{BlockHeld, block-held, do
 use Rattle.segment_postings.proofs.Bounds.{in-bounds}
 use Rattle.segment_postings.proofs.FoundBlock.{found-from, found-there}
 use Rattle.segment_postings.proofs.Holds.{getD-there}
-use Rattle.segment_postings.proofs.Lent.{leaving-laid, stepping-ended, stepping-within, stepping-leaves}
+use Rattle.segment_postings.proofs.Lent.{starts-behind, leaving-laid, stepping-ended, stepping-within, stepping-leaves}
 use Rattle.segment_postings.proofs.Turns.{landing-is, answerAt-is}
 use Rattle.segment_postings.proofs.Walk.{readingAt, found-same, reading-whole}
 
@@ -80,6 +80,7 @@ module _ (t : Term) (bs : List ℕ) (l : Layout) (laid : layout t bs ≡ ok l) w
   -- block b begins at place `at` of the image, behind the blocks of `front`
   pub record BlocksPassed (b at least : ℕ) (front : List Block) : Type 0 where
     pub block-most : b ≤ fullBlocks t
+    pub behind-skips : l .postings ≤ at
     pub inside : at ≤ length bs
     pub reads : reading t bs ≡ preceded front (readingAt t l bs b at least)
     pub docs-many : length (docsOf front) ≡ 128 * b
@@ -103,6 +104,7 @@ module _ (t : Term) (bs : List ℕ) (l : Layout) (laid : layout t bs ≡ ok l) w
   passed-none =
       record {
         block-most = omega arith;
+        behind-skips = omega arith;
         inside = layout-inside t bs laid;
         reads = reading-whole t l bs laid;
         docs-many = refl;
@@ -243,6 +245,11 @@ module _ (t : Term) (bs : List ℕ) (l : Layout) (laid : layout t bs ≡ ok l) w
         unfolding atPlace
         step-goes h m = stepping-within here bs t bounds (ne-eqb (128 * d .block + p) (t .count) (λ e. omega (arith, k .block-is))) m
 
+    -- the block behind a full one begins behind the skip bytes
+    next-behind : b < fullBlocks t → l .postings ≤ d .next
+    unfolding heldOf
+    next-behind some = omega (arith, k .held .next some .next-is, k .passed .behind-skips)
+
     -- the last place of a full block
     pub step-leaves : b < fullBlocks t
         → stepping (atPlace d 127) bs t ≡ landing t bs l 0 (b + 1) (d .next) (d .«last_doc» + 1) (b + 1) (b + 1)
@@ -253,7 +260,7 @@ module _ (t : Term) (bs : List ℕ) (l : Layout) (laid : layout t bs ≡ ok l) w
         let least : d .«last_doc» + 1 ≡ min (d .«last_doc» + 1) TERMINATED = omega (arith, k .held .next some .last-below) in
         let one-more : d .entries ≡ b + 1 = omega (arith, k .entries-are) in
         stepping-leaves (atPlace d 127) bs t bounds (ne-eqb (128 * d .block + 127) (t .count) (λ e. omega (arith, k .block-is))) (omega arith)
-        ∙ leaving-laid (atPlace d 127) bs t 0 laid least
+        ∙ leaving-laid (atPlace d 127) bs t 0 laid (starts-behind t l (d .block + 1) (d .next) (next-behind some)) least
         ∙ rw (k .block-is, one-more, k .unpacked-is)
 
     -- it is passed
@@ -264,6 +271,7 @@ module _ (t : Term) (bs : List ℕ) (l : Layout) (laid : layout t bs ≡ ok l) w
         let full = docs-in-full t b some in
         record {
           block-most = omega arith;
+          behind-skips = next-behind some;
           inside = k .next-inside;
           reads = k .passed .reads ∙ ap (preceded (k .front)) on ∙ rw append-assoc;
           docs-many = rw (docs-append, docs-one) (simp length-append (omega (arith, k .passed .docs-many, k .held .docs-many)));

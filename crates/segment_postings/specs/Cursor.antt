@@ -1,6 +1,6 @@
 -- What the cursor's calls answer and leave, on every input.
 -- Assumes nothing.
-use mathlib.Core.Bool.{Bool, false, _&&_ as and}
+use mathlib.Core.Bool.{Bool, false, _&&_ as and, _||_ as or}
 use mathlib.Core.List.{List, _++_}
 use Prim.Native.Nat.{ℕ, zero, suc, _+_, _-_, _*_, min}
 use lib.ListN.{length, drop, getD, replicate}
@@ -145,11 +145,20 @@ atPlace c p = record {
 unfoldable pub leastAfter : ℕ → ℕ
 leastAfter last = min (last + 1) TERMINATED
 
--- another block: questions 1 to 4 are asked again of the image that is passed, then 5 to 9
+-- whether block b, which begins at place `at` of the image, begins inside the posting bytes. It is a part of question 5, which is asked
+-- of entries: the tail has none
+unfoldable pub startsInside : Term → Layout → ℕ → ℕ → Bool
+unfolding fullBlocks
+startsInside t l b at = or (leb (fullBlocks t) b) (leb (l .postings) at)
+
+-- another block: questions 1 to 4 are asked again of the image that is passed, then 5 to 9. A lent cursor that didn't come
+-- from this image may place its next block before the posting bytes; blocks found behind that one begin behind it
 unfoldable pub leaving : SegmentPostings → List ℕ → Term → ℕ → Outcome SegmentPostings
-unfolding andThen layout landing leastAfter
+unfolding andThen ask layout startsInside landing leastAfter
 leaving c bs t target =
-    andThen (layout t bs) λ l. landing t bs l target (c .block + 1) (c .next) (leastAfter (c .«last_doc»)) (c .entries) (c .unpacked)
+    andThen (layout t bs) λ l.
+    ask (startsInside t l (c .block + 1) (c .next)) entryBroken λ _.
+    landing t bs l target (c .block + 1) (c .next) (leastAfter (c .«last_doc»)) (c .entries) (c .unpacked)
 
 -- a step: 16; at the end nothing; else one place on, in the held block or the next
 unfoldable pub stepping : SegmentPostings → List ℕ → Term → Outcome SegmentPostings

@@ -9,9 +9,11 @@ use crate::Loaded;
 use crate::Reached;
 use crate::Search;
 use crate::find::find_block;
+use crate::layout::full_blocks;
 use crate::layout::lay_out;
 use crate::load::load_block;
 use format::COMPRESSION_BLOCK_SIZE;
+use format::ENTRY_BROKEN;
 use format::Layout;
 use format::STATE_BROKEN;
 use format::TERMINATED;
@@ -23,7 +25,7 @@ ghost use mathlib.Core.List.{List};
 ghost use Prim.Native.Nat.{ℕ, _+_, _*_, _/_, _<_, _^_};
 ghost use lib.Dec.{eqb};
 ghost use lib.ListN.{length};
-ghost use Rattle.segment_postings.specs.Cursor.{inBounds, answerAt, landing, opening, leastAfter, leaving, stepping};
+ghost use Rattle.segment_postings.specs.Cursor.{inBounds, answerAt, landing, opening, leastAfter, startsInside, leaving, stepping};
 ghost use Rattle.segment_postings.specs.Calls.{cursorOf, FoundThere, FindsFrom, Reaches, loaded};
 
 // Question 16 of a cursor over an image of `size` bytes: it is asked of the numbers alone.
@@ -167,7 +169,18 @@ fn least_after(last_doc: u32) -> u32
     }
 }
 
-// Goes to another block, from a full one: questions 1 to 4 are asked again of the image that is passed, then 5 to 9.
+// Whether a block that begins at `at` begins inside the posting bytes: a part of question 5, so asked of a block with an entry alone.
+fn starts_inside(term: Term, layout: Layout, block: usize, at: usize) -> bool
+    ensures { λ r. ⌜ r ≡ startsInside term layout block at ⌝ }
+{
+    if full_blocks(term.count) <= block {
+        return true;
+    }
+    layout.postings <= at
+}
+
+// Goes to another block, from a full one: questions 1 to 4 are asked again of the image that is passed, then 5 to 9. A lent
+// cursor that didn't come from this image may place its next block before the posting bytes.
 pub(crate) fn leave(
     held: Held,
     image: &[u8],
@@ -181,14 +194,19 @@ pub(crate) fn leave(
 {
     match lay_out(image, term) {
         Laid::At(layout) => {
+            let block = held.block + 1;
+            let next = held.next;
+            if !starts_inside(term, layout, block, next) {
+                return Reached::Refused(ENTRY_BROKEN);
+            }
             let least = least_after(held.last_doc);
             land(
                 image,
                 term,
                 layout,
                 target,
-                held.block + 1,
-                held.next,
+                block,
+                next,
                 least,
                 held.entries,
                 held.unpacked,
