@@ -48,7 +48,7 @@
 //     let mut docs = [TERMINATED; 128];
 //     let mut freqs = [1u32; 128];
 //     match open_in(image, term, &mut docs, &mut freqs) { Reached::At(held) => .., Reached::Refused(why) => .. }
-//     match step_in(held, image, term, &mut docs, &mut freqs) { Reached::At(held) => .., Reached::Refused(why) => .. }
+//     match advance_in(held, image, term, &mut docs, &mut freqs) { Reached::At(held) => .., Reached::Refused(why) => .. }
 //     match seek_in(held, image, term, 300, &mut docs, &mut freqs) { Reached::At(held) => .., Reached::Refused(why) => .. }
 //
 // The document is docs[held.place]; at the end, where the position 128 * held.block + held.place is the count, there is none.
@@ -86,6 +86,7 @@ pub use segment_postings::SegmentPostings;
 pub use segment_postings::Value;
 pub use segment_postings::advance;
 pub use segment_postings::advance_by_lending;
+pub use segment_postings::advance_in;
 pub use segment_postings::advance_mut;
 pub use segment_postings::doc;
 pub use segment_postings::layout::posting_bytes;
@@ -98,7 +99,6 @@ pub use segment_postings::seek;
 pub use segment_postings::seek_by_lending;
 pub use segment_postings::seek_in;
 pub use segment_postings::seek_mut;
-pub use segment_postings::step_in;
 pub use segment_postings::term_freq;
 pub use segment_postings::total;
 pub use segment_postings::validate::validate;

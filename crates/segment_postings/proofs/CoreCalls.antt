@@ -1,4 +1,4 @@
--- The calls on two lent arrays (`open_in`, `step_in`, `seek_in`) are the calls by value on the cursor that the numbers and the arrays
+-- The calls on two lent arrays (`open_in`, `advance_in`, `seek_in`) are the calls by value on the cursor that the numbers and the arrays
 -- make together. One that came somewhere leaves, in its numbers and the arrays, the cursor that the call by value hands back, and the
 -- call by value answers for it; one that was refused leaves the arrays, and the call by value is refused under the same number. So a
 -- list of these calls is a list of calls of the third promise (crate postings), which is about cursors.
@@ -41,10 +41,10 @@ module _ (bs : List ℕ) (t : Term) {docs freqs docs′ freqs′ : List ℕ} {r 
   open-in-calls = same-call t blank
 
   module _ (held : Held) where
-    pub step-in-calls : Reaches (stepping (cursorOf held docs freqs) bs t) docs freqs docs′ freqs′ r
+    pub advance-in-calls : Reaches (stepping (cursorOf held docs freqs) bs t) docs freqs docs′ freqs′ r
         → SameCall t (cursorOf held docs freqs) (advanced (cursorOf held docs freqs) bs t) docs freqs docs′ freqs′ r
     unfolding advanced
-    step-in-calls = same-call t (cursorOf held docs freqs)
+    advance-in-calls = same-call t (cursorOf held docs freqs)
 
     pub seek-in-calls : (target : ℕ) → Reaches (seeking (cursorOf held docs freqs) bs t target) docs freqs docs′ freqs′ r
         → SameCall t (cursorOf held docs freqs) (sought (cursorOf held docs freqs) bs t target) docs freqs docs′ freqs′ r

@@ -219,7 +219,7 @@ pub(crate) fn leave(
 }
 
 // Steps to the next document: in the held block, or to the first of the next one; at the end nowhere.
-pub fn step_in(
+pub fn advance_in(
     held: Held,
     image: &[u8],
     term: Term,

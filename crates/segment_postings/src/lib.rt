@@ -15,8 +15,8 @@ mod segment_postings;
 pub mod validate;
 mod whole;
 
+pub use crate::core::advance_in;
 pub use crate::core::open_in;
-pub use crate::core::step_in;
 pub use crate::counts::total;
 pub use crate::lending::advance_by_lending;
 pub use crate::lending::advance_mut;

@@ -6,11 +6,11 @@ use crate::Moved;
 use crate::Reached;
 use crate::SegmentPostings;
 use crate::Value;
+use crate::core::advance_in;
 use crate::core::answer_at;
 use crate::core::at_end;
 use crate::core::in_bounds;
 use crate::core::open_in;
-use crate::core::step_in;
 use format::COMPRESSION_BLOCK_SIZE;
 use format::STATE_BROKEN;
 use format::TERMINATED;
@@ -96,7 +96,7 @@ pub fn advance(cursor: SegmentPostings, image: &[u8], term: Term) -> Moved
     let mut docs = cursor.docs;
     let mut freqs = cursor.freqs;
     let was = held_of(cursor);
-    match step_in(was, image, term, &mut docs, &mut freqs) {
+    match advance_in(was, image, term, &mut docs, &mut freqs) {
         Reached::At(held) => {
             let answer = answer_at(held, term, &docs, &freqs);
             Moved {

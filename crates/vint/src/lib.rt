@@ -175,7 +175,7 @@ pub fn compress_unsorted(values: &[u32], dst: &mut [u8], at: usize) -> Next
     Next::At(next)
 }
 
-// As many numbers, from `at` on, as `values` has places. Those before a malformed one are laid down too.
+// As many numbers, from `at` on, as `values` has places. Those before a malformed one are stored too.
 pub fn uncompress_unsorted(src: &[u8], at: usize, values: &mut [u32]) -> Next
     ensures { λ r. ⌜ r ≡ behind at (tailNumbers (length (now (values .entry))) (drop at (now (src .entry)))) ⌝ }
     ensures { λ _. ⌜ now (values .exit)

@@ -14,14 +14,14 @@ use Rattle.segment_postings.proofs.segment_postings.advance.Tie as tie
 held-of-requires : tie.Need-held-of-requires
 held-of-requires c κs = search needs
 
-step-in-requires : tie.Need-step-in-requires
-step-in-requires c κs = search needs
+advance-in-requires : tie.Need-advance-in-requires
+advance-in-requires c κs = search needs
 
 enum-known-held : tie.Need-enum-known-held
 enum-known-held c = search needs
 
 -- the cursor that was taken apart
-same : (c : tie.After-step-in) →
+same : (c : tie.After-advance-in) →
     let h = c .before .before .before in
     let s = h .before .before .before .before in
     stepping (s .args .cursor) (s .args .image .now) (s .args .term)
@@ -35,7 +35,7 @@ answer-at-requires : tie.Need-answer-at-requires
 unfolding cursorOf
 answer-at-requires c κs =
     let h = c .before .before .before in
-    stepping-near _ _ _ (reached-at (h .before .before .step-in .ensures) (h .held .given .1)) .0
+    stepping-near _ _ _ (reached-at (h .before .before .advance-in .ensures) (h .held .given .1)) .0
 
 cursor-of-requires : tie.Need-cursor-of-requires
 cursor-of-requires c κs = search needs
@@ -52,13 +52,13 @@ returns c =
     let h = c .before .before .before .before .before in
     let s = h .before .before in
     moved-at _ _ (c .before .answer-at .ensures) (c .cursor-of .ensures)
-    (reached-at (reaches-as (same s) (s .step-in .ensures)) (h .held .given .1))
+    (reached-at (reaches-as (same s) (s .advance-in .ensures)) (h .held .given .1))
 
 returns-2 : tie.Need-returns-2
 unfolding advanced
 returns-2 c =
     let s = c .before .before .before .before in
-    moved-back _ _ (reaches-as (same s) (s .step-in .ensures)) (c .before .before .n .given .1) (s .before .before .before .held-of .ensures)
+    moved-back _ _ (reaches-as (same s) (s .advance-in .ensures)) (c .before .before .n .given .1) (s .before .before .before .held-of .ensures)
     (c .cursor-of2 .ensures)
 
 pub advance-spec : {M : Type 1} → statement M
@@ -66,7 +66,7 @@ advance-spec =
     tie.close
     (tie.spec
     held-of-requires
-    step-in-requires
+    advance-in-requires
     enum-known-held
     answer-at-requires
     cursor-of-requires

@@ -1,4 +1,4 @@
--- `segment_postings::core::step_in` meets its contract: its tests are the definition's, in turn.
+-- `segment_postings::core::advance_in` meets its contract: its tests are the definition's, in turn.
 -- Assumes nothing.
 use mathlib.Core.Path.{_≡_, refl, sym, _∙_}
 use mathlib.Core.Bool.{true}
@@ -9,8 +9,8 @@ use Rattle.segment_postings.specs.Calls.{cursorOf}
 use Rattle.segment_postings.proofs.Bounds.{bounded}
 use Rattle.segment_postings.proofs.Lent.{reaches-as, none-reached, held-reached, stepping-broken, stepping-ended, stepping-within, leaves-full, stepping-leaves}
 use borrow.Author.Needs.{needs}
-use Rattle.segment_postings.proofs.core.step_in.Statement.{statement}
-use Rattle.segment_postings.proofs.core.step_in.Tie as tie
+use Rattle.segment_postings.proofs.core.advance_in.Statement.{statement}
+use Rattle.segment_postings.proofs.core.advance_in.Tie as tie
 
 in-bounds-requires : tie.Need-in-bounds-requires
 in-bounds-requires c κs = search needs
@@ -59,8 +59,8 @@ returns-4 c =
     (stepping-leaves _ _ _ (in-bounds (e .before .before)) (sym (e .before .at-end .ensures) ∙ e .if2 .left) (f .if3 .left))
     (c .leave .ensures)
 
-pub step-in-spec : {M : Type 1} → statement M
-step-in-spec =
+pub advance-in-spec : {M : Type 1} → statement M
+advance-in-spec =
     tie.close
     (tie.spec
     in-bounds-requires
