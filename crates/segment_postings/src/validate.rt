@@ -76,7 +76,8 @@ fn freqs_of(taken: Taken) -> usize
     if taken.read { taken.n } else { 0 }
 }
 
-// Walks over the blocks. The first question that is answered no ends the whole walk, from inside the places of a block too.
+// Walks over the blocks, by labelled loops over the blocks and the places of each, as document 01 asks: the first question that is
+// answered no ends the whole walk, from inside a block's places too.
 fn walk(image: &[u8], term: Term, layout: Layout) -> u8
     requires { ⌜ layouts.layout term (now image) ≡ ok layout ⌝ }
     ensures { λ r. ⌜ r ≡ reading term (now (image .entry)) .refusal ⌝ }
