@@ -12,6 +12,7 @@ pub mod IdsBelow
 pub mod ImageLayout
 pub mod Lanes
 pub mod Lists
+pub mod LooksAt
 pub mod Opened
 pub mod Outcome
 pub mod ReadFreqs

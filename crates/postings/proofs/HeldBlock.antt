@@ -1,7 +1,9 @@
 -- A call that does not leave the held block does not look at the image, beyond its length for question 16: on two images of the same
--- length it answers the same and leaves the same cursor. So a bad block is refused only once it is landed on. The fraud that document 01
--- names beside it, unpacking all at opening, would refuse at opening. Last, a lent cursor that came from no image, whose next block
--- begins before the posting bytes.
+-- length it answers the same and leaves the same cursor. A call that lands on a block looks besides at the bytes before the posting bytes
+-- and at those of that block alone: segment_postings/proofs/LooksAt.antt `opens-by-the-first` of opening, `step-lands-on-one` and
+-- `seek-lands-on-one` of steps and seeks. So a bad block is refused only once it is landed on, whatever block it is. The fraud that
+-- document 01 names beside it, unpacking all at opening, would refuse at opening. Last, a lent cursor that came from no
+-- image, whose next block begins before the posting bytes.
 -- Assumes nothing.
 use mathlib.Core.Path.{_≡_, refl}
 use mathlib.Core.List.{List, [], _∷_, _++_}
@@ -14,41 +16,38 @@ use Rattle.format.specs.Model.{step, seek}
 use Rattle.block_search.specs.Search.{pivotsBelow}
 use Rattle.segment_postings.specs.declared.Answer.the-variants.{At, Refused}
 use Rattle.segment_postings.specs.declared.SegmentPostings.{SegmentPostings}
-use Rattle.segment_postings.specs.Cursor.{position, inBounds, stepping, advanced, seeking, sought}
+use Rattle.segment_postings.specs.Cursor.{position, stepping, advanced, seeking, sought}
 use Rattle.segment_postings.specs.Called.{calls}
+use Rattle.segment_postings.proofs.LooksAt.{same-bounds}
 
 module _ (c : SegmentPostings) (t : Term) (bs bs′ : List ℕ) (same : length bs ≡ length bs′) where
-  same-bounds : inBounds t bs c ≡ inBounds t bs′ c
-  unfolding inBounds
-  same-bounds = rw same
-
   -- at the end
   pub step-at-end : position c ≡ t .count → advanced c bs t ≡ advanced c bs′ t
   unfolding advanced stepping choose
-  step-at-end e = rw (same-bounds, eq-eqb (position c) (t .count) e)
+  step-at-end e = rw (same-bounds c t bs bs′ same, eq-eqb (position c) (t .count) e)
 
   pub seek-at-end : (target : ℕ) → position c ≡ t .count → sought c bs t target ≡ sought c bs′ t target
   unfolding sought seeking choose
-  seek-at-end target e = rw (same-bounds, eq-eqb (position c) (t .count) e)
+  seek-at-end target e = rw (same-bounds c t bs bs′ same, eq-eqb (position c) (t .count) e)
 
   -- a step to another place of the block
   pub step-held : c .place + 1 < 128 → advanced c bs t ≡ advanced c bs′ t
   unfolding advanced stepping choose
-  step-held h = rw (same-bounds, lt-ltb (c .place + 1) 128 h)
+  step-held h = rw (same-bounds c t bs bs′ same, lt-ltb (c .place + 1) 128 h)
 
   -- a seek to a target not behind the present document, or not behind the block's last id
   pub seek-stays : (target : ℕ) → target ≤ getD (c .docs) (c .place) 0 → sought c bs t target ≡ sought c bs′ t target
   unfolding sought seeking choose
-  seek-stays target h = rw (same-bounds, le-leb target (getD (c .docs) (c .place) 0) h)
+  seek-stays target h = rw (same-bounds c t bs bs′ same, le-leb target (getD (c .docs) (c .place) 0) h)
 
   pub seek-held : (target : ℕ) → target ≤ c .«last_doc» → sought c bs t target ≡ sought c bs′ t target
   unfolding sought seeking choose
-  seek-held target h = rw (same-bounds, le-leb target (c .«last_doc») h)
+  seek-held target h = rw (same-bounds c t bs bs′ same, le-leb target (c .«last_doc») h)
 
   -- a target that is refused
   pub seek-refused : (target : ℕ) → TERMINATED < target → sought c bs t target ≡ sought c bs′ t target
   unfolding sought seeking ask choose
-  seek-refused target h = rw (same-bounds, lt-leb target TERMINATED h)
+  seek-refused target h = rw (same-bounds c t bs bs′ same, lt-leb target TERMINATED h)
 
 -- ---- one image
 

@@ -9,6 +9,7 @@ pub mod Holds
 pub mod Landed
 pub mod Landing
 pub mod Lent
+pub mod LooksAt
 pub mod Most
 pub mod Near
 pub mod Padded
