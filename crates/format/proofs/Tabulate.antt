@@ -65,6 +65,10 @@ tabulate-is n f l d e h =
     ext-getD d (tabulate n f) l (tabulate-length n f ∙ sym e)
     (λ i b. let b′ : i < n = rw tabulate-length at b in tabulate-at n f i d b′ ∙ h i b′)
 
+pub tabulate-same : {A : Type 0} (n : ℕ) (f g : ℕ → A) → ((i : ℕ) → i < n → f i ≡ g i) → tabulate n f ≡ tabulate n g
+tabulate-same n f g h =
+    tabulate-is n f (tabulate n g) (g 0) (tabulate-length n g) (λ i b. h i b ∙ sym (tabulate-at n g i (g 0) b))
+
 pub tabulate-below : {m : ℕ} (n : ℕ) (f : ℕ → ℕ) → ((i : ℕ) → i < n → f i < m) → AllBelow m (tabulate n f)
 unfolding tabulate
 tabulate-below n f h = from-below n 0 f (λ i b. rw zero-add (h i b))
