@@ -12,7 +12,8 @@
 //     let step = write_doc(begun.state, 3, 1, &mut skips, &mut postings);
 //     let step = write_doc(step.state, 7, 2, &mut skips, &mut postings);
 //     let closed = close_term(step.state, 2, &skips, &postings, &mut output);
-//     match closed.answer { Written::Bytes(n) => .., Written::Refused(why) => .. }
+//     let answer = closed.answer;
+//     match answer { Written::Bytes(n) => .., Written::Refused(why) => .. }
 //
 // Each step's answer is such a `Written` too, with 0 bytes. Or the whole list at once, which refuses before it writes a byte:
 //
@@ -28,7 +29,8 @@
 //     let opened = open(image, term);                                  // at the first document
 //     let moved = advance(opened.cursor, image, term);                 // the next
 //     let moved = seek(moved.cursor, image, term, 300);                // the first at or above 300, not before the present one
-//     match moved.answer { Answer::At { doc, freq, unpacked, entries } => .., Answer::Refused(why) => .. }
+//     let answer = moved.answer;
+//     match answer { Answer::At { doc, freq, unpacked, entries } => .., Answer::Refused(why) => .. }
 //     match doc(moved.cursor, image, term) { Value::Is(d) => .., Value::Refused(why) => .. }          // 2147483647 at the end
 //     match term_freq(moved.cursor, image, term) { Value::Is(f) => .., Value::Refused(why) => .. }    // 0 at the end
 //
