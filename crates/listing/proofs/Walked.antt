@@ -14,8 +14,8 @@ use Rattle.format.proofs.Sound.{Sound, sound-image}
 use Rattle.segment_postings.specs.declared.SegmentPostings.{SegmentPostings}
 use Rattle.segment_postings.specs.Cursor.{answerAt, moved, blank, opened, advanced}
 use Rattle.segment_postings.specs.Called.{shown}
-use Rattle.segment_postings.proofs.Agrees.{Agrees, docs-count, opening-agrees, answer-agrees, stepping-agrees}
-use Rattle.segment_postings.proofs.Turns.{moved-ok, opened-is, advanced-is}
+use Rattle.segment_postings.proofs.Simulation.StepSimulates.{Agrees, docs-count, opening-agrees, answer-agrees, stepping-agrees}
+use Rattle.segment_postings.proofs.core.CursorTurns.{moved-ok, opened-is, advanced-is}
 use Rattle.listing.specs.Output.{line, linesOf, steps, Puts}
 use Rattle.listing.proofs.Decimal.{line-most}
 use Rattle.listing.proofs.Putting.{puts-none, puts-length, puts-then}

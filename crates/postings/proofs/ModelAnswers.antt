@@ -17,7 +17,7 @@ use Rattle.segment_postings.specs.declared.Answer.{Answer}
 use Rattle.segment_postings.specs.declared.Answer.the-variants.{At, Refused}
 use Rattle.segment_postings.specs.Cursor.{opened}
 use Rattle.segment_postings.specs.Called.{shown, callsFrom, calls, allNumbers, shownNumbers, positions, modelNumbers}
-use Rattle.segment_postings.proofs.CallsShow.{calls-show, calls-numbers}
+use Rattle.segment_postings.proofs.Simulation.CallsSimulate.{calls-show, calls-numbers}
 use Rattle.postings.specs.RunCalls.{callOf, unlessRefused, answered, modelAnswers}
 use Rattle.postings.proofs.Answered.{as-many-answers}
 

@@ -31,13 +31,13 @@ use Rattle.serializer.specs.declared.Answer.the-variants.{Bytes}
 use Rattle.serializer.specs.Writer as writer
 use Rattle.serializer.specs.Writer.{listing}
 use Rattle.serializer.specs.Calls.{Listed}
-use Rattle.serializer.proofs.WholeList.{whole-list-writes, whole-list-sound, whole-list-reads-back}
+use Rattle.serializer.proofs.list.WholeList.{whole-list-writes, whole-list-sound, whole-list-reads-back}
 use Rattle.segment_postings.specs.declared.Answer.{Answer}
 use Rattle.segment_postings.specs.declared.Moved.{Moved}
 use Rattle.segment_postings.specs.declared.SegmentPostings.{SegmentPostings}
 use Rattle.segment_postings.specs.Cursor.{opened, ranking}
 use Rattle.segment_postings.specs.Called.{shown}
-use Rattle.segment_postings.proofs.RankCounts.{rank-ids}
+use Rattle.segment_postings.proofs.Simulation.RankCounts.{rank-ids}
 use Rattle.postings.specs.MixedCalls.{MadeCall, Called}
 use Rattle.postings.proofs.FirstPromise.{bytes-answered}
 use Rattle.postings.proofs.ThirdPromise.{callsOf, third-promise}

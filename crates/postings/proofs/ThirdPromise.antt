@@ -41,7 +41,7 @@ use Rattle.segment_postings.specs.declared.Moved.{Moved}
 use Rattle.segment_postings.specs.declared.SegmentPostings.{SegmentPostings}
 use Rattle.segment_postings.specs.Cursor.{position, moved, answerAt, opened, stepping, seeking, advanced, docAt, freqAt, sought}
 use Rattle.segment_postings.specs.Called.{shown, called, callsFrom, calls, cursorAfter, allNumbers, positions, modelNumbers}
-use Rattle.segment_postings.proofs.CallsShow.{Counts, calls-show, calls-count, calls-doc, calls-freq, calls-numbers}
+use Rattle.segment_postings.proofs.Simulation.CallsSimulate.{Counts, calls-show, calls-count, calls-doc, calls-freq, calls-numbers}
 use Rattle.postings.specs.MixedCalls.{Manner, by-value, lent, MadeCall, Meets, handed-back, left-there, Called, none, next, codeOf, Small, ended, stepped, sought as sought-small}
 use Rattle.postings.proofs.Answered.{step-called, lent-step-called, seek-called}
 use Rattle.postings.proofs.ModelAnswers.{entry-most}

@@ -1,16 +1,1 @@
-pub mod Ahead
-pub mod Blocks
-pub mod Checked
-pub mod Closing
-pub mod ListAreas
-pub mod ListBlocks
-pub mod Listing
-pub mod OneCall
-pub mod Pieces
-pub mod Placing
 pub mod SingleCalls
-pub mod State
-pub mod Taken
-pub mod Turns
-pub mod WholeList
-pub mod WritesList

@@ -6,7 +6,7 @@ use denote.Ref.{now}
 use borrow.Author.Tests.{not-true, not-false}
 use borrow.Author.Needs.{needs}
 use Rattle.serializer.specs.Writer.{inBounds}
-use Rattle.serializer.proofs.Closing.{closed-broken, closed-mismatch, closed-refused, closed-done}
+use Rattle.serializer.proofs.image.CloseCases.{closed-broken, closed-mismatch, closed-refused, closed-done}
 use Rattle.serializer.proofs.close_term.Statement.{statement}
 use Rattle.serializer.proofs.close_term.Tie as tie
 

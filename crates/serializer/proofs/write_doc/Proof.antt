@@ -3,7 +3,7 @@
 use denote.Ref.{now}
 use lib.ListN.{length}
 use borrow.Author.Needs.{needs}
-use Rattle.serializer.proofs.Taken.{answered-bytes, answered-refused, asking-yes, taking-refused, settled-refused}
+use Rattle.serializer.proofs.document.TakeCases.{answered-bytes, answered-refused, asking-yes, taking-refused, settled-refused}
 use Rattle.serializer.proofs.write_doc.Statement.{statement}
 use Rattle.serializer.proofs.write_doc.Tie as tie
 

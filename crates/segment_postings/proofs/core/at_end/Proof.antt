@@ -1,6 +1,6 @@
 -- `segment_postings::core::at_end` meets its contract: a position's block and place are the quotient and the remainder of the count.
 -- Assumes nothing.
-use Rattle.segment_postings.proofs.Bounds.{other-block, last-block}
+use Rattle.segment_postings.proofs.core.Question16.{other-block, last-block}
 use borrow.Author.Needs.{needs}
 use Rattle.segment_postings.proofs.core.at_end.Statement.{statement}
 use Rattle.segment_postings.proofs.core.at_end.Tie as tie

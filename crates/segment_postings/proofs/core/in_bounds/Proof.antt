@@ -3,7 +3,7 @@
 use mathlib.Core.Path.{sym}
 use native.Mathlib.Omega.{arith}
 use Rattle.segment_postings.specs.Calls.{cursorOf}
-use Rattle.segment_postings.proofs.Bounds.{in-bounds, out-of-bounds}
+use Rattle.segment_postings.proofs.core.Question16.{in-bounds, out-of-bounds}
 use borrow.Author.Needs.{needs}
 use Rattle.segment_postings.proofs.core.in_bounds.Statement.{statement}
 use Rattle.segment_postings.proofs.core.in_bounds.Tie as tie

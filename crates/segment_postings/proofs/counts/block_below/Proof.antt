@@ -5,7 +5,7 @@ use Prim.Native.Nat.{_≤_}
 use native.Mathlib.Omega.{arith}
 use lib.ListN.{length, take}
 use lib.Seq.{length-take-le}
-use Rattle.segment_postings.proofs.BlockHeld.{docs-in-most}
+use Rattle.segment_postings.proofs.Admission.LandingReads.{docs-in-most}
 use borrow.Author.Needs.{needs}
 use Rattle.segment_postings.proofs.counts.block_below.Statement.{statement}
 use Rattle.segment_postings.proofs.counts.block_below.Tie as tie

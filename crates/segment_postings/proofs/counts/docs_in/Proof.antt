@@ -3,7 +3,7 @@
 use mathlib.Core.Path.{sym}
 use native.Mathlib.Omega.{arith}
 use Rattle.format.specs.Layout.{fullBlocks, tailLength}
-use Rattle.segment_postings.proofs.BlockHeld.{docs-in-full, docs-in-tail}
+use Rattle.segment_postings.proofs.Admission.LandingReads.{docs-in-full, docs-in-tail}
 use borrow.Author.Needs.{needs}
 use Rattle.segment_postings.proofs.counts.docs_in.Statement.{statement}
 use Rattle.segment_postings.proofs.counts.docs_in.Tie as tie

@@ -8,7 +8,7 @@ use native.Mathlib.Omega.{arith}
 use borrow.Author.Tests.{eq-eqb, ne-eqb}
 use lib.ListN.{length, getD, take, drop}
 use Rattle.format.specs.Counts.{countBelow, sum}
-use Rattle.segment_postings.proofs.TotalBlocks.{sum-next, front-passes, front-stops, front-ends}
+use Rattle.segment_postings.proofs.counts.TotalInBlocks.{sum-next, front-passes, front-stops, front-ends}
 use Rattle.segment_postings.proofs.counts.front_below.Statement.{statement}
 use Rattle.segment_postings.proofs.counts.front_below.Tie as tie
 

@@ -8,9 +8,9 @@ use borrow.Author.Tests.{not-true, not-false}
 use Rattle.format.specs.Basics.{Outcome}
 use Rattle.format.specs.Layout.{fullBlocks}
 use Rattle.segment_postings.specs.Calls.{valued}
-use Rattle.segment_postings.proofs.BlockHeld.{BlockHeld, block-held}
-use Rattle.segment_postings.proofs.Lent.{reached-at, reached-nowhere}
-use Rattle.segment_postings.proofs.TotalWalk.{Walked, walked-none, walk-refused, walk-stops, walk-ends, walk-goes-on}
+use Rattle.segment_postings.proofs.Admission.LandingReads.{BlockHeld, block-held}
+use Rattle.segment_postings.proofs.core.LandingParts.{reached-at, reached-nowhere}
+use Rattle.segment_postings.proofs.counts.TotalLoop.{Walked, walked-none, walk-refused, walk-stops, walk-ends, walk-goes-on}
 use borrow.Author.Needs.{needs}
 use Rattle.segment_postings.proofs.counts.total_laid.Statement.{statement}
 use Rattle.segment_postings.proofs.counts.total_laid.Tie as tie

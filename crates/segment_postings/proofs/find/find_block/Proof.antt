@@ -22,8 +22,8 @@ use Rattle.skip.proofs.Entry.{size-most}
 use Rattle.segment_postings.specs.declared.Found.{Found}
 use Rattle.segment_postings.specs.Cursor.{findBlock}
 use Rattle.segment_postings.specs.Calls.{searched}
-use Rattle.segment_postings.proofs.Parts.{laid-out, entry-inside}
-use Rattle.segment_postings.proofs.FoundBlock.{Passed, passed, entryOf, find-broken, find-here, find-on, find-end}
+use Rattle.segment_postings.proofs.layout.SplitParts.{laid-out, entry-inside}
+use Rattle.segment_postings.proofs.find.FoundBlock.{Passed, passed, entryOf, find-broken, find-here, find-on, find-end}
 use Rattle.segment_postings.proofs.find.find_block.Statement.{statement}
 use Rattle.segment_postings.proofs.find.find_block.Tie as tie
 

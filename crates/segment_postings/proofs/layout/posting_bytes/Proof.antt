@@ -10,7 +10,7 @@ use lib.ListN.{length-drop}
 use lib.Seq.{take-all}
 use Rattle.segment_postings.specs.declared.layout.Split.the-variants.{At}
 use Rattle.segment_postings.specs.Calls.{splitOf}
-use Rattle.segment_postings.proofs.Parts.{split-places, postings-at}
+use Rattle.segment_postings.proofs.layout.SplitParts.{split-places, postings-at}
 use Rattle.segment_postings.proofs.layout.posting_bytes.Statement.{statement}
 use Rattle.segment_postings.proofs.layout.posting_bytes.Tie as tie
 

@@ -7,7 +7,7 @@ use borrow.Author.Needs.{needs}
 use denote.Ref.{now}
 use Rattle.segment_postings.specs.declared.layout.Split.the-variants.{At}
 use Rattle.segment_postings.specs.Calls.{splitOf}
-use Rattle.segment_postings.proofs.Parts.{split-places, skips-at}
+use Rattle.segment_postings.proofs.layout.SplitParts.{split-places, skips-at}
 use Rattle.segment_postings.proofs.layout.skip_bytes.Statement.{statement}
 use Rattle.segment_postings.proofs.layout.skip_bytes.Tie as tie
 

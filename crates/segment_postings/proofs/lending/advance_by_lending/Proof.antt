@@ -3,7 +3,7 @@
 use denote.Ref.{now}
 use Rattle.thin.proofs.Owns.{owns}
 use Rattle.segment_postings.specs.Cursor.{advanced}
-use Rattle.segment_postings.proofs.Types.{moved, advance-params}
+use Rattle.segment_postings.proofs.lending.LentTypes.{moved, advance-params}
 use Rattle.segment_postings.proofs.lending.advance_mut.Symbol as advance-mut
 use Rattle.segment_postings.proofs.lending.advance_mut.Met as advance-mut-met
 use Rattle.segment_postings.proofs.lending.advance_by_lending.Key.{name as key}

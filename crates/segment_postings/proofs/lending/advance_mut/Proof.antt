@@ -3,7 +3,7 @@
 use denote.Ref.{now}
 use Rattle.thin.proofs.Lent.{thin}
 use Rattle.segment_postings.specs.Cursor.{advanced}
-use Rattle.segment_postings.proofs.Types.{moved, advance-params}
+use Rattle.segment_postings.proofs.lending.LentTypes.{moved, advance-params}
 use Rattle.segment_postings.proofs.segment_postings.advance.Symbol as advance
 use Rattle.segment_postings.proofs.segment_postings.advance.Met as advance-met
 use Rattle.segment_postings.proofs.lending.advance_mut.Key.{name as key}

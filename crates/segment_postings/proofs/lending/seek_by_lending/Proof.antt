@@ -3,7 +3,7 @@
 use denote.Ref.{now}
 use Rattle.thin.proofs.Owns.{owns}
 use Rattle.segment_postings.specs.Cursor.{sought}
-use Rattle.segment_postings.proofs.Types.{moved, seek-params}
+use Rattle.segment_postings.proofs.lending.LentTypes.{moved, seek-params}
 use Rattle.segment_postings.proofs.lending.seek_mut.Symbol as seek-mut
 use Rattle.segment_postings.proofs.lending.seek_mut.Met as seek-mut-met
 use Rattle.segment_postings.proofs.lending.seek_by_lending.Key.{name as key}

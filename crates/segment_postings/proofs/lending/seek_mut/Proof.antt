@@ -3,7 +3,7 @@
 use denote.Ref.{now}
 use Rattle.thin.proofs.Lent.{thin}
 use Rattle.segment_postings.specs.Cursor.{sought}
-use Rattle.segment_postings.proofs.Types.{moved, seek-params}
+use Rattle.segment_postings.proofs.lending.LentTypes.{moved, seek-params}
 use Rattle.segment_postings.proofs.seeks.seek.Symbol as seek
 use Rattle.segment_postings.proofs.seeks.seek.Met as seek-met
 use Rattle.segment_postings.proofs.lending.seek_mut.Key.{name as key}

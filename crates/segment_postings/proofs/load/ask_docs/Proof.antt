@@ -19,7 +19,7 @@ use Rattle.compression.specs.declared.values.Restored.the-variants.{Rising, Not
 use Rattle.compression.specs.Restored.{inPlace, risen}
 use Rattle.segment_postings.specs.declared.load.Taken.{Taken}
 use Rattle.segment_postings.specs.Taken.{endsOn, outcome, DocsAsked}
-use Rattle.segment_postings.proofs.Questions.{docs-broken, docs-fallen, docs-end-wrong, docs-right}
+use Rattle.segment_postings.proofs.load.BlockQuestions.{docs-broken, docs-fallen, docs-end-wrong, docs-right}
 use Rattle.segment_postings.proofs.load.ask_docs.Statement.{statement}
 use Rattle.segment_postings.proofs.load.ask_docs.Tie as tie
 

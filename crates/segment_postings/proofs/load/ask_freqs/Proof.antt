@@ -16,7 +16,7 @@ use Rattle.format.proofs.ValuesCode.{countable-kept}
 use Rattle.compression.specs.Restored.{inPlace}
 use Rattle.segment_postings.specs.declared.load.Taken.{Taken}
 use Rattle.segment_postings.specs.Taken.{takenFreqs, outcome, FreqsAsked}
-use Rattle.segment_postings.proofs.Questions.{freqs-broken, freqs-wrong, freqs-not-last, freqs-right}
+use Rattle.segment_postings.proofs.load.BlockQuestions.{freqs-broken, freqs-wrong, freqs-not-last, freqs-right}
 use Rattle.segment_postings.proofs.load.ask_freqs.Statement.{statement}
 use Rattle.segment_postings.proofs.load.ask_freqs.Tie as tie
 

@@ -1,4 +1,4 @@
--- `segment_postings::load::take_values` meets its contract. Each way to a return is a case of `Taking.antt`; the places of the ways
+-- `segment_postings::load::take_values` meets its contract. Each way to a return is a case of `TakeValuesCases.antt`; the places of the ways
 -- give what that case asks.
 -- Assumes nothing.
 use mathlib.Core.Path.{_≡_, sym, _∙_}
@@ -19,8 +19,8 @@ use Rattle.vint.specs.Numbers.{behind}
 use Rattle.format.specs.SkipEntry.{blockSize}
 use Rattle.format.specs.Layout.{fullBlocks}
 use Rattle.format.specs.Reading.{tailHasFreq}
-use Rattle.segment_postings.proofs.Taking.{unpacked-from, full-without, full-with, tail-broken, tail-without, tail-unasked}
-use Rattle.segment_postings.proofs.Taking.{docs-room, freqs-room, tail-freqs-broken, tail-with}
+use Rattle.segment_postings.proofs.load.TakeValuesCases.{unpacked-from, full-without, full-with, tail-broken, tail-without, tail-unasked}
+use Rattle.segment_postings.proofs.load.TakeValuesCases.{docs-room, freqs-room, tail-freqs-broken, tail-with}
 use Rattle.segment_postings.proofs.load.take_values.Statement.{statement}
 use Rattle.segment_postings.proofs.load.take_values.Tie as tie
 

@@ -9,7 +9,7 @@ use borrow.Author.Tests.{not-true, not-false}
 use Rattle.format.specs.Basics.{ask, choose}
 use Rattle.segment_postings.specs.Cursor.{position, inBounds, valueAt}
 use Rattle.segment_postings.specs.Calls.{cursorOf, valued}
-use Rattle.segment_postings.proofs.Bounds.{bounded}
+use Rattle.segment_postings.proofs.core.Question16.{bounded}
 use borrow.Author.Needs.{needs}
 use Rattle.segment_postings.proofs.segment_postings.value_at.Statement.{statement}
 use Rattle.segment_postings.proofs.segment_postings.value_at.Tie as tie

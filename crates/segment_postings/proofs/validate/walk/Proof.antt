@@ -29,14 +29,14 @@ use Rattle.segment_postings.specs.declared.load.Taken.{Taken}
 use Rattle.segment_postings.specs.Calls.{FindsFrom, FoundThere}
 use Rattle.segment_postings.specs.Cursor.{findBlock}
 use Rattle.segment_postings.specs.Taken.{endsOn, takenFreqs, endsBefore, askedDocs, askedFreqs, ValuesTaken}
-use Rattle.segment_postings.proofs.Lent.{searched-to, searched-refused}
-use Rattle.segment_postings.proofs.Parts.{laid-out}
-use Rattle.segment_postings.proofs.FoundBlock.{found-there}
-use Rattle.segment_postings.proofs.Places.{Ordered, ordered-none, ordered-next, ordered-never, ordered-all, ordered-ends, ends-full}
-use Rattle.segment_postings.proofs.Places.{Counted, freqsRead-most, counted-none, counted-next, counted-never, counted-all}
-use Rattle.segment_postings.proofs.Questions.{docs-broken, docs-fallen, docs-end-wrong, docs-right, freqs-broken, freqs-wrong, freqs-not-last, freqs-right}
-use Rattle.segment_postings.proofs.Walk.{readingAt, loadedAt-none, found-same, full-within}
-use Rattle.segment_postings.proofs.Walk.{reading-whole, reading-stops, stops-at-docs, stops-at-freqs, goes-on, ends-at-tail}
+use Rattle.segment_postings.proofs.core.LandingParts.{searched-to, searched-refused}
+use Rattle.segment_postings.proofs.layout.SplitParts.{laid-out}
+use Rattle.segment_postings.proofs.find.FoundBlock.{found-there}
+use Rattle.segment_postings.proofs.validate.PlaceByPlace.{Ordered, ordered-none, ordered-next, ordered-never, ordered-all, ordered-ends, ends-full}
+use Rattle.segment_postings.proofs.validate.PlaceByPlace.{Counted, freqsRead-most, counted-none, counted-next, counted-never, counted-all}
+use Rattle.segment_postings.proofs.load.BlockQuestions.{docs-broken, docs-fallen, docs-end-wrong, docs-right, freqs-broken, freqs-wrong, freqs-not-last, freqs-right}
+use Rattle.segment_postings.proofs.Admission.WalkReads.{readingAt, loadedAt-none, found-same, full-within}
+use Rattle.segment_postings.proofs.Admission.WalkReads.{reading-whole, reading-stops, stops-at-docs, stops-at-freqs, goes-on, ends-at-tail}
 use Rattle.segment_postings.proofs.validate.walk.Statement.{statement}
 use Rattle.segment_postings.proofs.validate.walk.Tie as tie
 

@@ -11,8 +11,8 @@ use lib.ListN.{length, getD, set, length-set}
 use lib.Seq.{paste, paste-zero, paste-suc}
 use borrow.Author.Needs.{needs}
 use Rattle.segment_postings.specs.Passed.{docsIn}
-use Rattle.segment_postings.proofs.BlockHeld.{docs-in-most}
-use Rattle.segment_postings.proofs.WholeWalk.{putAt-front}
+use Rattle.segment_postings.proofs.Admission.LandingReads.{docs-in-most}
+use Rattle.segment_postings.proofs.whole.ReadLoop.{putAt-front}
 use Rattle.segment_postings.proofs.whole.put_block.Statement.{statement}
 use Rattle.segment_postings.proofs.whole.put_block.Tie as tie
 

@@ -6,10 +6,10 @@ use mathlib.Core.Path.{sym}
 use Prim.Native.Nat.{_+_, _-_, _^_, _<_}
 use native.Mathlib.Omega.{arith}
 use Rattle.format.specs.Layout.{fullBlocks}
-use Rattle.segment_postings.proofs.BlockHeld.{BlockHeld, block-held}
-use Rattle.segment_postings.proofs.Lent.{reached-at, reached-nowhere}
-use Rattle.segment_postings.proofs.WholeWalk.{Copied, copied-none, never-refused, docs-room, freqs-room}
-use Rattle.segment_postings.proofs.WholeWalk.{docs-kept, freqs-kept, copy-goes-on, copy-ends}
+use Rattle.segment_postings.proofs.Admission.LandingReads.{BlockHeld, block-held}
+use Rattle.segment_postings.proofs.core.LandingParts.{reached-at, reached-nowhere}
+use Rattle.segment_postings.proofs.whole.ReadLoop.{Copied, copied-none, never-refused, docs-room, freqs-room}
+use Rattle.segment_postings.proofs.whole.ReadLoop.{docs-kept, freqs-kept, copy-goes-on, copy-ends}
 use borrow.Author.Needs.{needs}
 use Rattle.segment_postings.proofs.whole.read_laid.Statement.{statement}
 use Rattle.segment_postings.proofs.whole.read_laid.Tie as tie

@@ -1,7 +1,7 @@
 -- `serializer::block::last_of` meets its contract.
 -- Assumes nothing.
 use mathlib.Core.Path.{sym}
-use Rattle.serializer.proofs.Placing.{last-at, last-none}
+use Rattle.serializer.proofs.block.BlockPlaced.{last-at, last-none}
 use borrow.Author.Needs.{needs}
 use Rattle.serializer.proofs.block.last_of.Statement.{statement}
 use Rattle.serializer.proofs.block.last_of.Tie as tie

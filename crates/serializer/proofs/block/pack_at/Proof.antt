@@ -1,6 +1,6 @@
 -- `serializer::block::pack_at` meets its contract: the part that is lent comes back with the packed values at its front.
 -- Assumes nothing.
-use Rattle.serializer.proofs.Placing.{packed-part}
+use Rattle.serializer.proofs.block.BlockPlaced.{packed-part}
 use borrow.Author.Needs.{needs}
 use Rattle.serializer.proofs.block.pack_at.Statement.{statement}
 use Rattle.serializer.proofs.block.pack_at.Tie as tie

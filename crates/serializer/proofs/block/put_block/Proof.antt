@@ -1,6 +1,6 @@
 -- `serializer::block::put_block` meets its contract: the frequencies go behind the documents, so that both are put as one.
 -- Assumes nothing.
-use Rattle.serializer.proofs.Placing.{block-put}
+use Rattle.serializer.proofs.block.BlockPlaced.{block-put}
 use borrow.Author.Needs.{needs}
 use Rattle.serializer.proofs.block.put_block.Statement.{statement}
 use Rattle.serializer.proofs.block.put_block.Tie as tie

@@ -9,7 +9,7 @@ use borrow.Author.Needs.{needs}
 use Rattle.format.specs.Bitpacking.{width}
 use Rattle.serializer.specs.Calls.{blockFits}
 use Rattle.serializer.specs.Writer.{docValues, freqValues}
-use Rattle.serializer.proofs.Placing.{Valued, valued-narrow, valued-fits, valued-room, block-refused, block-written}
+use Rattle.serializer.proofs.block.BlockPlaced.{Valued, valued-narrow, valued-fits, valued-room, block-refused, block-written}
 use Rattle.serializer.proofs.block.write_block.Statement.{statement}
 use Rattle.serializer.proofs.block.write_block.Tie as tie
 

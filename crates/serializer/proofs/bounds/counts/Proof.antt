@@ -8,7 +8,7 @@ use denote.Ref.{now}
 use lib.ListN.{length, getD, drop}
 use borrow.Author.Tests.{le-leb}
 use Rattle.format.specs.Values.{countable}
-use Rattle.serializer.proofs.Turns.{countable-next, countable-end}
+use Rattle.serializer.proofs.list.QuestionTurns.{countable-next, countable-end}
 use Rattle.serializer.proofs.bounds.counts.Statement.{statement}
 use Rattle.serializer.proofs.bounds.counts.Tie as tie
 

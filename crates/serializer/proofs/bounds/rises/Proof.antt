@@ -8,7 +8,7 @@ use denote.Ref.{now}
 use lib.ListN.{length, drop}
 use borrow.Author.Tests.{lt-leb, le-leb, lt-ltb, le-ltb}
 use Rattle.format.specs.Values.{rising}
-use Rattle.serializer.proofs.Turns.{rising-next, rising-end}
+use Rattle.serializer.proofs.list.QuestionTurns.{rising-next, rising-end}
 use Rattle.serializer.proofs.bounds.rises.Statement.{statement}
 use Rattle.serializer.proofs.bounds.rises.Tie as tie
 

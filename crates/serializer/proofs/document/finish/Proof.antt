@@ -4,7 +4,7 @@ use denote.Ref.{now}
 use borrow.Author.Needs.{needs}
 use Rattle.serializer.specs.Calls.{BlockWritten}
 use Rattle.serializer.specs.Writer.{optionOf}
-use Rattle.serializer.proofs.Taken.{finish-refused, finish-done}
+use Rattle.serializer.proofs.document.TakeCases.{finish-refused, finish-done}
 use Rattle.serializer.proofs.document.finish.Statement.{statement}
 use Rattle.serializer.proofs.document.finish.Tie as tie
 

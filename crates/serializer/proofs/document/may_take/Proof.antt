@@ -7,8 +7,8 @@ use borrow.Author.Needs.{needs}
 use Rattle.format.specs.Accepted.{takeDoc}
 use Rattle.serializer.specs.Calls.{answered}
 use Rattle.serializer.specs.Writer.{boundsHold, optionOf, firstLeast, leastAfter, waitingDocs}
-use Rattle.serializer.proofs.State.{few}
-use Rattle.serializer.proofs.Taken.{answered-bytes, answered-refused, asking-broken, asking-refused, asking-full, asking-ok}
+use Rattle.serializer.proofs.bounds.Question16.{few}
+use Rattle.serializer.proofs.document.TakeCases.{answered-bytes, answered-refused, asking-broken, asking-refused, asking-full, asking-ok}
 use Rattle.serializer.proofs.document.may_take.Statement.{statement}
 use Rattle.serializer.proofs.document.may_take.Tie as tie
 

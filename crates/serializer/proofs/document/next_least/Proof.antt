@@ -8,7 +8,7 @@ use mir.Val.{Fits}
 use mir.Syntax.{w32}
 use borrow.Author.Needs.{needs}
 use Rattle.serializer.specs.Writer.{firstLeast, waitingDocs}
-use Rattle.serializer.proofs.Taken.{least-none, least-some}
+use Rattle.serializer.proofs.document.TakeCases.{least-none, least-some}
 use Rattle.serializer.proofs.document.next_least.Statement.{statement}
 use Rattle.serializer.proofs.document.next_least.Tie as tie
 

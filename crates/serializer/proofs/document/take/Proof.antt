@@ -7,7 +7,7 @@ use denote.Ref.{now}
 use lib.ListN.{length}
 use borrow.Author.Needs.{needs}
 use Rattle.serializer.specs.Writer.{stored}
-use Rattle.serializer.proofs.Taken.{Admitted, admitted, least-small, filled-rises, settled-ok, taking-waits, taking-fills}
+use Rattle.serializer.proofs.document.TakeCases.{Admitted, admitted, least-small, filled-rises, settled-ok, taking-waits, taking-fills}
 use Rattle.serializer.proofs.document.take.Statement.{statement}
 use Rattle.serializer.proofs.document.take.Tie as tie
 

@@ -5,7 +5,7 @@ use Prim.Native.Nat.{ℕ, _-_}
 use lib.ListN.{length, getD}
 use borrow.Author.Needs.{needs}
 use Rattle.serializer.specs.Pieces.{emptied}
-use Rattle.serializer.proofs.Placing.{last-at}
+use Rattle.serializer.proofs.block.BlockPlaced.{last-at}
 use Rattle.serializer.proofs.document.without_block.Statement.{statement}
 use Rattle.serializer.proofs.document.without_block.Tie as tie
 

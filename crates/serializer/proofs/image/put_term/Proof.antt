@@ -9,8 +9,8 @@ use lib.ListN.{length}
 use lib.Seq.{length-take-le}
 use borrow.Author.Needs.{needs}
 use Rattle.serializer.specs.Writer.{boundsHold, inBounds, optionOf, waitingDocs, waitingFreqs}
-use Rattle.serializer.proofs.Closing.{image-of}
-use Rattle.serializer.proofs.State.{few, skips-within, postings-within}
+use Rattle.serializer.proofs.image.CloseCases.{image-of}
+use Rattle.serializer.proofs.bounds.Question16.{few, skips-within, postings-within}
 use Rattle.serializer.proofs.image.put_term.Statement.{statement}
 use Rattle.serializer.proofs.image.put_term.Tie as tie
 

@@ -5,7 +5,7 @@ use Prim.Native.Nat.{_≤_}
 use native.Mathlib.Omega.{arith}
 use borrow.Author.Needs.{needs}
 use Rattle.format.proofs.Bitpacking.{width-le}
-use Rattle.serializer.proofs.Placing.{blockOf-length}
+use Rattle.serializer.proofs.block.BlockPlaced.{blockOf-length}
 use Rattle.serializer.proofs.list.block_size.Statement.{statement}
 use Rattle.serializer.proofs.list.block_size.Tie as tie
 

@@ -8,8 +8,8 @@ use denote.Ref.{now}
 use lib.ListN.{length, take}
 use Rattle.serializer.specs.Whole.{fullBlocks}
 use Rattle.serializer.specs.Writer.{leastAfter, blocksOf}
-use Rattle.serializer.proofs.Blocks.{blocksOf-zero}
-use Rattle.serializer.proofs.ListBlocks.{least-next, id-below, postings-most, size-next}
+use Rattle.serializer.proofs.list.Blocks.{blocksOf-zero}
+use Rattle.serializer.proofs.list.BlockPlaces.{least-next, id-below, postings-most, size-next}
 use Rattle.serializer.proofs.list.blocks_size.Statement.{statement}
 use Rattle.serializer.proofs.list.blocks_size.Tie as tie
 

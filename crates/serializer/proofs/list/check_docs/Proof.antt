@@ -9,7 +9,7 @@ use borrow.Author.Needs.{needs}
 use lib.ListN.{length}
 use Rattle.format.specs.declared.IndexRecordOption.{IndexRecordOption}
 use Rattle.serializer.specs.Calls.{answered}
-use Rattle.serializer.proofs.Checked.{Passes, Asked, asked-end, asked-next, too-large, not-rising, freq-zero}
+use Rattle.serializer.proofs.list.CheckLoop.{Passes, Asked, asked-end, asked-next, too-large, not-rising, freq-zero}
 use Rattle.serializer.proofs.list.check_docs.Statement.{statement}
 use Rattle.serializer.proofs.list.check_docs.Tie as tie
 

@@ -6,8 +6,8 @@ use borrow.Author.Tests.{not-true, not-false}
 use denote.Ref.{now}
 use lib.ListN.{length}
 use Rattle.serializer.specs.Whole.{ListSized, listFits}
-use Rattle.serializer.proofs.ListBlocks.{full-skips}
-use Rattle.serializer.proofs.Listing.{put-refused, blocks-fit, parts-there, put-all}
+use Rattle.serializer.proofs.list.BlockPlaces.{full-skips}
+use Rattle.serializer.proofs.list.ListCases.{put-refused, blocks-fit, parts-there, put-all}
 use borrow.Author.Needs.{needs}
 use Rattle.serializer.proofs.list.write_checked.Statement.{statement}
 use Rattle.serializer.proofs.list.write_checked.Tie as tie

@@ -8,10 +8,10 @@ use Rattle.format.specs.Accepted.{keptIn, takeDocs}
 use Rattle.format.specs.Basics.{Outcome, ok}
 use Rattle.serializer.specs.declared.Answer.the-variants.{Bytes}
 use Rattle.serializer.specs.Calls.{answered}
-use Rattle.serializer.proofs.Checked.{taken-rises}
-use Rattle.serializer.proofs.Listing.{listed-refused, mode-unknown, lengths-differ, docs-refused, docs-taken, listed-put}
+use Rattle.serializer.proofs.list.CheckLoop.{taken-rises}
+use Rattle.serializer.proofs.list.ListCases.{listed-refused, mode-unknown, lengths-differ, docs-refused, docs-taken, listed-put}
 use borrow.Author.Needs.{needs}
-use Rattle.serializer.proofs.Taken.{answered-bytes, answered-refused}
+use Rattle.serializer.proofs.document.TakeCases.{answered-bytes, answered-refused}
 use Rattle.serializer.proofs.list.write_list.Statement.{statement}
 use Rattle.serializer.proofs.list.write_list.Tie as tie
 

@@ -1,0 +1,5 @@
+pub mod AdmissionExact
+pub mod LandingReads
+pub mod WalkByBlocks
+pub mod WalkByCalls
+pub mod WalkReads

@@ -1,0 +1,10 @@
+pub mod CallsSimulate
+pub mod EntriesLeadTo
+pub mod HoldsBlock
+pub mod PaddedDocs
+pub mod PlaceInList
+pub mod RankCounts
+pub mod SearchOnLanding
+pub mod SeekPosition
+pub mod SeekSimulates
+pub mod StepSimulates

@@ -1,0 +1,274 @@
+-- A landing in two parts: the block that is found, and what it holds. Each is an answer of a function that was lent the two arrays.
+-- Assumes nothing.
+use mathlib.Core.Path.{_≡_, refl, sym, ap, subst, _∙_}
+use mathlib.Core.List.{List}
+use mathlib.Core.Bool.{true, false}
+use mathlib.Core.Logic.{⊎-elim}
+use Prim.Native.Nat.{ℕ, _+_, _-_, _*_, _/_, _≤_, _<_}
+use native.Mathlib.Nat.{eq-or-lt-of-le}
+use native.Mathlib.Decide.{decLe}
+use native.Mathlib.Omega.{arith}
+use borrow.Author.Tests.{lt-ltb, le-ltb, le-leb, lt-leb, eqb-false}
+use lib.Dec.{eqb, leb}
+use Rattle.format.specs.declared.Layout.{Layout}
+use Rattle.format.specs.declared.Term.{Term}
+use Rattle.format.specs.Basics.{Outcome, ok, refused, andThen, ask, choose}
+use Rattle.format.specs.Refusal.{entryBroken, stateBroken}
+use Rattle.format.specs.SkipEntry.{blockSize}
+use Rattle.format.specs.Layout.{layout, fullBlocks, skipBytes}
+use Rattle.format.specs.Reading.{Block}
+use Rattle.format.proofs.Outcome.{ok-same, andThen-ok}
+use Rattle.segment_postings.specs.declared.Found.{Found}
+use Rattle.segment_postings.specs.declared.Held.{Held}
+use Rattle.segment_postings.specs.declared.SegmentPostings.{SegmentPostings}
+use Rattle.segment_postings.specs.declared.Laid.the-variants as laid-as
+use Rattle.segment_postings.specs.declared.Loaded.{Loaded}
+use Rattle.segment_postings.specs.declared.Loaded.the-variants as loaded-as
+use Rattle.segment_postings.specs.declared.Search.the-variants as search-as
+use Rattle.segment_postings.specs.declared.Answer.{Answer}
+use Rattle.segment_postings.specs.declared.Answer.the-variants as answer-as
+use Rattle.segment_postings.specs.declared.Reached.{Reached}
+use Rattle.segment_postings.specs.declared.Reached.the-variants as reached-as
+use Rattle.segment_postings.specs.Cursor.{findBlock, loadBlock, holding, landing, position, inBounds, opening, atPlace, leastAfter, startsInside, leaving, stepping, answerAt, moved}
+use Rattle.segment_postings.specs.Calls.{laid, searched, counted, orBefore, cursorOf, heldOf, reached, loaded, FindsFrom, BlockLoaded, Reaches}
+use Rattle.segment_postings.proofs.core.Question16.{Bounded, bounded}
+use Rattle.segment_postings.proofs.layout.SplitParts.{laid-out}
+use Rattle.segment_postings.proofs.core.CursorTurns.{landing-is, opening-is}
+
+-- ---- what an answer tells of its outcome
+
+counted-unpacked : (unpacked : ℕ) (o : Outcome Block) {n : ℕ} → counted unpacked o ≡ loaded-as.Unpacked n → (b : Block) × (o ≡ ok b) × (n ≡ unpacked + 1)
+unfolding counted
+counted-unpacked unpacked (ok b) e = (b, refl, cc)
+counted-unpacked unpacked (refused m) e = absurd (let z : _≡_ {A = ℕ} 0 1 = cc in omega arith)
+
+counted-refused : (unpacked : ℕ) (o : Outcome Block) {n : ℕ} → counted unpacked o ≡ loaded-as.Refused n → o ≡ refused n
+unfolding counted
+counted-refused unpacked (ok b) e = absurd (let z : _≡_ {A = ℕ} 0 1 = cc in omega arith)
+counted-refused unpacked (refused m) e = cc
+
+pub searched-to : (o : Outcome Found) {f : Found} → searched o ≡ search-as.To f → o ≡ ok f
+unfolding searched
+searched-to (ok g) e = cc
+searched-to (refused m) e = absurd (let z : _≡_ {A = ℕ} 0 1 = cc in omega arith)
+
+pub searched-refused : (o : Outcome Found) {n : ℕ} → searched o ≡ search-as.Refused n → o ≡ refused n
+unfolding searched
+searched-refused (ok g) e = absurd (let z : _≡_ {A = ℕ} 0 1 = cc in omega arith)
+searched-refused (refused m) e = cc
+
+pub laid-at : (o : Outcome Layout) {l : Layout} → laid o ≡ laid-as.At l → o ≡ ok l
+unfolding laid
+laid-at (ok k) e = cc
+laid-at (refused m) e = absurd (let z : _≡_ {A = ℕ} 0 1 = cc in omega arith)
+
+pub laid-refused : (o : Outcome Layout) {n : ℕ} → laid o ≡ laid-as.Refused n → o ≡ refused n
+unfolding laid
+laid-refused (ok k) e = absurd (let z : _≡_ {A = ℕ} 0 1 = cc in omega arith)
+laid-refused (refused m) e = cc
+
+-- ---- a block that was found, unpacked
+
+-- the numbers of a cursor at the block's first place
+unfoldable pub first : Found → ℕ → ℕ → Held
+first f size unpacked = record {
+  place = 0;
+  block = f .block;
+  next = f .at + size;
+  «last_doc» = f .info .«last_doc»;
+  unpacked = unpacked;
+  entries = f .entries;
+}
+
+module _ {t : Term} {l : Layout} {bs : List ℕ} {f : Found} {unpacked : ℕ} {docs freqs docs′ freqs′ : List ℕ} {r : Loaded} where
+  pub unpacked-there : BlockLoaded t l bs f unpacked docs freqs docs′ freqs′ r → {n size : ℕ} → r ≡ loaded-as.Unpacked n → size ≡ blockSize (f .info)
+      → Reaches (loaded t l bs f unpacked) docs freqs docs′ freqs′ (reached-as.At (first f size n))
+  unfolding loaded orBefore andThen holding reached heldOf first
+  unpacked-there b e s =
+      let o = counted-unpacked unpacked (loadBlock t l bs f) (sym (b .answer) ∙ e) in
+      record {
+        answer = rw (o .1, ← (o .2), ← s);
+        docs-after = rw (o .1) (rw (o .1) at (b .docs-after));
+        freqs-after = rw (o .1) (rw (o .1) at (b .freqs-after));
+      }
+
+  pub unpacked-refused : BlockLoaded t l bs f unpacked docs freqs docs′ freqs′ r → {n : ℕ} → r ≡ loaded-as.Refused n
+      → Reaches (loaded t l bs f unpacked) docs freqs docs′ freqs′ (reached-as.Refused n)
+  unfolding loaded orBefore andThen reached
+  unpacked-refused b e =
+      let o = counted-refused unpacked (loadBlock t l bs f) (sym (b .answer) ∙ e) in
+      record { answer = rw o; docs-after = rw o (rw o at (b .docs-after)); freqs-after = rw o (rw o at (b .freqs-after)) }
+
+-- ---- the two in a row
+
+pub reaches-as : {o o′ : Outcome SegmentPostings} {docs freqs docs′ freqs′ : List ℕ} {r : Reached}
+    → o ≡ o′ → Reaches o′ docs freqs docs′ freqs′ r → Reaches o docs freqs docs′ freqs′ r
+reaches-as {docs = docs} {freqs = freqs} {docs′ = docs′} {freqs′ = freqs′} {r = r} e h =
+    subst (λ (o : Outcome SegmentPostings). Reaches o docs freqs docs′ freqs′ r) (sym e) h
+
+pub none-reached : {o : Outcome SegmentPostings} {n : ℕ} (docs freqs : List ℕ) → o ≡ refused n → Reaches o docs freqs docs freqs (reached-as.Refused n)
+unfolding reached orBefore
+none-reached docs freqs e = reaches-as e (record { answer = refl; docs-after = refl; freqs-after = refl })
+
+module _ (t : Term) (bs : List ℕ) (l : Layout) (target b at least entries unpacked : ℕ) where
+  pub landing-found : {f : Found} → findBlock (l .option) (skipBytes l bs) bs target (fullBlocks t - b) b at least entries ≡ ok f
+      → landing t bs l target b at least entries unpacked ≡ loaded t l bs f unpacked
+  unfolding landing loaded andThen
+  landing-found e = rw e
+
+  pub landing-refused : {n : ℕ} → findBlock (l .option) (skipBytes l bs) bs target (fullBlocks t - b) b at least entries ≡ refused n
+      → landing t bs l target b at least entries unpacked ≡ refused n
+  unfolding landing andThen
+  landing-refused e = rw e
+
+-- ---- calls that hold the arrays as they are
+
+pub held-reached : {o : Outcome SegmentPostings} (h : Held) (docs freqs : List ℕ) → o ≡ ok (cursorOf h docs freqs)
+    → Reaches o docs freqs docs freqs (reached-as.At h)
+unfolding reached orBefore heldOf cursorOf
+held-reached h docs freqs e = reaches-as e (record { answer = refl; docs-after = refl; freqs-after = refl })
+
+-- ---- opening, and another block: questions 1 to 4, where the block begins, and then a landing
+
+pub starts-tail : (t : Term) (l : Layout) (b at : ℕ) → fullBlocks t ≤ b → startsInside t l b at ≡ true
+unfolding startsInside
+starts-tail t l b at h = rw (le-leb _ _ h)
+
+pub starts-entry : (t : Term) (l : Layout) (b at : ℕ) → b < fullBlocks t → startsInside t l b at ≡ leb (l .postings) at
+unfolding startsInside
+starts-entry t l b at h = rw (lt-leb _ _ h)
+
+-- behind the skip bytes the answer is yes
+pub starts-behind : (t : Term) (l : Layout) (b at : ℕ) → l .postings ≤ at → startsInside t l b at ≡ true
+starts-behind t l b at h = elim (decLe (fullBlocks t) b) [
+  | yes past ↦ starts-tail t l b at past
+  | no some ↦ starts-entry t l b at (omega arith) ∙ le-leb _ _ h
+]
+
+module _ (bs : List ℕ) (t : Term) where
+  pub opening-laid : {l : Layout} → layout t bs ≡ ok l → opening bs t ≡ landing t bs l 0 0 (l .postings) 0 0 0
+  unfolding opening andThen
+  opening-laid e = rw e
+
+  pub opening-refused : {n : ℕ} → layout t bs ≡ refused n → opening bs t ≡ refused n
+  unfolding opening andThen
+  opening-refused e = rw e
+
+  pub opens-from : {l : Layout} → layout t bs ≡ ok l → FindsFrom t l bs 0 (l .postings) 0
+  opens-from e = record { laid-out = e; block-most = omega arith; inside = laid-out t bs e .inside; entries-most = omega arith }
+
+module _ (c : SegmentPostings) (bs : List ℕ) (t : Term) where
+  pub leaving-laid : (target : ℕ) {l : Layout} {least : ℕ} → layout t bs ≡ ok l → startsInside t l (c .block + 1) (c .next) ≡ true
+      → least ≡ leastAfter (c .«last_doc»)
+      → leaving c bs t target ≡ landing t bs l target (c .block + 1) (c .next) least (c .entries) (c .unpacked)
+  unfolding leaving andThen ask
+  leaving-laid target e inside least = rw (e, inside, least)
+
+  pub leaving-early : (target : ℕ) {l : Layout} → layout t bs ≡ ok l → startsInside t l (c .block + 1) (c .next) ≡ false
+      → leaving c bs t target ≡ refused entryBroken
+  unfolding leaving andThen ask
+  leaving-early target e early = rw (e, early)
+
+  pub leaving-refused : (target : ℕ) {n : ℕ} → layout t bs ≡ refused n → leaving c bs t target ≡ refused n
+  unfolding leaving andThen
+  leaving-refused target e = rw e
+
+  pub leaves-from : {l : Layout} → Bounded t bs c → c .block < t .count / 128 → layout t bs ≡ ok l
+      → FindsFrom t l bs (c .block + 1) (c .next) (c .entries)
+  unfolding fullBlocks
+  leaves-from b full e = record { laid-out = e; block-most = omega arith; inside = b .next-inside; entries-most = b .entries-behind }
+
+  -- ---- a step
+
+  pub stepping-broken : inBounds t bs c ≡ false → stepping c bs t ≡ refused stateBroken
+  unfolding stepping ask
+  stepping-broken e = rw e
+
+  module _ (in-bounds : inBounds t bs c ≡ true) where
+    pub stepping-ended : eqb (128 * c .block + c .place) (t .count) ≡ true → stepping c bs t ≡ ok c
+    unfolding stepping ask choose position
+    stepping-ended e = rw (in-bounds, e)
+
+    module _ (before : eqb (128 * c .block + c .place) (t .count) ≡ false) where
+      pub stepping-within : c .place + 1 < 128 → stepping c bs t ≡ ok (atPlace c (c .place + 1))
+      unfolding stepping ask choose position
+      stepping-within h = rw (in-bounds, before, lt-ltb _ _ h)
+
+      -- the tail's last place is the end, so that only a full block is left
+      pub leaves-full : 128 ≤ c .place + 1 → c .block < t .count / 128
+      leaves-full h =
+          let b = bounded t bs c in-bounds in
+          ⊎-elim (λ e. absurd (eqb-false _ _ before e)) (λ l. omega (arith, b .place-below)) (eq-or-lt-of-le (b .position-most))
+
+      pub stepping-leaves : 128 ≤ c .place + 1 → stepping c bs t ≡ leaving c bs t 0
+      unfolding stepping ask choose position
+      stepping-leaves h = rw (in-bounds, before, le-ltb _ _ h)
+
+-- ---- where a call that came somewhere has come to
+
+pub reached-at : {o : Outcome SegmentPostings} {docs freqs docs′ freqs′ : List ℕ} {r : Reached} {h : Held}
+    → Reaches o docs freqs docs′ freqs′ r → r ≡ reached-as.At h → o ≡ ok (cursorOf h docs′ freqs′)
+unfolding reached orBefore heldOf cursorOf
+reached-at {o} {docs} {freqs} {docs′} {freqs′} {r} {h} k e = go o (sym (k .answer) ∙ e) (k .docs-after) (k .freqs-after)
+  where
+    go : (o : Outcome SegmentPostings) → reached o ≡ reached-as.At h → docs′ ≡ orBefore (λ c. c .docs) o docs → freqs′ ≡ orBefore (λ c. c .freqs) o freqs
+        → o ≡ ok (cursorOf h docs′ freqs′)
+    go (ok c) a d f = let s : heldOf c ≡ h = cc in rw (d, f) (ap (λ (x : Held). ok (cursorOf x (c .docs) (c .freqs))) s)
+    go (refused n) a d f = absurd (let z : _≡_ {A = ℕ} 0 1 = cc in omega arith)
+
+pub reached-nowhere : {o : Outcome SegmentPostings} {docs freqs docs′ freqs′ : List ℕ} {r : Reached} {n : ℕ}
+    → Reaches o docs freqs docs′ freqs′ r → r ≡ reached-as.Refused n → o ≡ refused n
+unfolding reached
+reached-nowhere {o} {n = n} k e = go o (sym (k .answer) ∙ e)
+  where
+    go : (o : Outcome SegmentPostings) → reached o ≡ reached-as.Refused n → o ≡ refused n
+    go (ok c) a = absurd (let z : _≡_ {A = ℕ} 0 1 = cc in omega arith)
+    go (refused m) a = cc
+
+-- a cursor taken apart
+pub same-cursor : (c : SegmentPostings) {h : Held} → h ≡ heldOf c → cursorOf h (c .docs) (c .freqs) ≡ c
+unfolding cursorOf heldOf
+same-cursor c e = rw e
+
+-- an answer with its cursor
+pub moved-at : (t : Term) (before : SegmentPostings) {o : Outcome SegmentPostings} {a : Answer} {c m : SegmentPostings}
+    → a ≡ answerAt t c → m ≡ c → o ≡ ok c → record { answer = a; cursor = m } ≡ moved t before o
+unfolding moved
+moved-at t before answers same e = rw (e, answers, same)
+
+pub moved-nowhere : (t : Term) (before : SegmentPostings) {o : Outcome SegmentPostings} {docs freqs docs′ freqs′ : List ℕ} {r : Reached} {n : ℕ}
+    → Reaches o docs freqs docs′ freqs′ r → r ≡ reached-as.Refused n
+    → moved t before o ≡ record { answer = answer-as.Refused n; cursor = before }
+unfolding moved
+moved-nowhere t before k e = rw (reached-nowhere k e)
+
+-- .. and the cursor that was taken apart, put together again: the arrays are as they were
+pub moved-back : (t : Term) (before : SegmentPostings) {o : Outcome SegmentPostings} {docs′ freqs′ : List ℕ} {r : Reached} {n : ℕ} {h : Held} {m : SegmentPostings}
+    → Reaches o (before .docs) (before .freqs) docs′ freqs′ r → r ≡ reached-as.Refused n → h ≡ heldOf before → m ≡ cursorOf h docs′ freqs′
+    → record { answer = answer-as.Refused n; cursor = m } ≡ moved t before o
+unfolding moved orBefore
+moved-back t before {o} {docs′} {freqs′} {n = n} {m = m} k e s p = rw (nowhere, kept)
+  where
+    nowhere : o ≡ refused n
+    nowhere = reached-nowhere k e
+
+    docs-kept : docs′ ≡ before .docs
+    docs-kept = rw nowhere at (k .docs-after)
+
+    freqs-kept : freqs′ ≡ before .freqs
+    freqs-kept = rw nowhere at (k .freqs-after)
+
+    kept : m ≡ before
+    kept = p ∙ rw (docs-kept, freqs-kept) (same-cursor before s)
+
+-- a landing is at its block's first place
+pub landing-first : (t : Term) (bs : List ℕ) (l : Layout) (target b at least entries unpacked : ℕ) {c : SegmentPostings}
+    → landing t bs l target b at least entries unpacked ≡ ok c → c .place ≡ 0
+unfolding holding
+landing-first t bs l target b at least entries unpacked e =
+    let found = andThen-ok _ _ (sym (landing-is t bs l target b at least entries unpacked) ∙ e) in
+    let loads = andThen-ok _ _ (found .2) in
+    ap (λ (c : SegmentPostings). c .place) (sym (ok-same (loads .2)))
+
+pub opening-first : (bs : List ℕ) (t : Term) {c : SegmentPostings} → opening bs t ≡ ok c → c .place ≡ 0
+opening-first bs t e = landing-first _ _ _ _ _ _ _ _ _ (andThen-ok _ _ (sym (opening-is bs t) ∙ e) .2)

@@ -1,0 +1,3 @@
+pub mod BelowMark
+pub mod TotalInBlocks
+pub mod TotalLoop

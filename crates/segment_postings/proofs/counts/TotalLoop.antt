@@ -1,0 +1,115 @@
+-- A walk block by block to a target. What is kept is that the total of the whole image is what was passed with the total of what is
+-- read from the next block on. A block that is passed whole keeps it; a document at or above the target, the end and a refusal each
+-- answer the total.
+-- Assumes nothing.
+use mathlib.Core.Bool.{true, false}
+use mathlib.Core.List.{List}
+use mathlib.Core.Logic.{⊎-elim}
+use mathlib.Core.Path.{_≡_, sym, ap, _∙_}
+use Prim.Native.Nat.{ℕ, _+_, _*_, _≤_, _<_}
+use native.Mathlib.Nat.{add-zero, eq-or-lt-of-le}
+use borrow.Author.Tests.{eqb-true, eqb-false}
+use native.Mathlib.Omega.{arith}
+use lib.Dec.{eqb}
+use lib.ListN.{length, take}
+use lib.Seq.{take-all}
+use Rattle.format.specs.declared.Layout.{Layout}
+use Rattle.format.specs.declared.Term.{Term}
+use Rattle.format.specs.Basics.{Outcome, ok, refused}
+use Rattle.format.specs.Layout.{layout, fullBlocks}
+use Rattle.format.specs.Reading.{Reading, nothing, before, reading}
+use Rattle.format.specs.Counts.{countBelow, sum, totalIn}
+use Rattle.format.proofs.Below.{count-le}
+use Rattle.segment_postings.specs.declared.counts.Front.{Front}
+use Rattle.segment_postings.specs.declared.Held.{Held}
+use Rattle.segment_postings.specs.Cursor.{landing}
+use Rattle.segment_postings.specs.Passed.{docsIn, FrontOf}
+use Rattle.segment_postings.proofs.Admission.LandingReads.{BlockHeld, landing-none, reads-first, reads-on, reads-last}
+use Rattle.segment_postings.proofs.layout.SplitParts.{laid-out}
+use Rattle.segment_postings.proofs.counts.TotalInBlocks.{added, added-zero, added-twice, total-refused, total-ended, total-stops, total-passes}
+use Rattle.segment_postings.proofs.Admission.WalkReads.{readingAt, reading-whole}
+
+-- each frequency is below 2 ^ 32, so that a block adds less than 2 ^ 39
+pub record Walked (t : Term) (l : Layout) (bs : List ℕ) (target b at least passed : ℕ) : Type 0 where
+  pub block-most : b ≤ fullBlocks t
+  pub inside : at ≤ length bs
+  pub passed-most : passed ≤ b * 549755813760
+  pub total-is : totalIn target (reading t bs) ≡ added passed (totalIn target (readingAt t l bs b at least))
+
+pub walked-none : (t : Term) (l : Layout) (bs : List ℕ) (target : ℕ) → layout t bs ≡ ok l → Walked t l bs target 0 (l .postings) 0 0
+walked-none t l bs target e =
+    record {
+      block-most = omega arith;
+      inside = laid-out t bs e .inside;
+      passed-most = omega arith;
+      total-is = ap (λ (r : Reading). totalIn target r) (reading-whole t l bs e) ∙ sym (added-zero _);
+    }
+
+module _ {t : Term} {l : Layout} {bs : List ℕ} {target b at least passed : ℕ} (w : Walked t l bs target b at least passed) where
+  -- ---- a block that is refused
+
+  pub walk-refused : {n : ℕ} → landing t bs l 0 b at least b b ≡ refused n → totalIn target (reading t bs) ≡ refused n
+  unfolding added
+  walk-refused {n} e =
+      let none = landing-none t l bs b at least e in
+      w .total-is
+      ∙ ap (λ (r : Reading). added passed (totalIn target r)) (none .reads)
+      ∙ ap (λ (o : Outcome ℕ). added passed o) (total-refused target n (none .numbered))
+
+  -- ---- the block that is held
+
+  module _ {h : Held} {docs freqs : List ℕ} (k : BlockHeld t l bs b at least h docs freqs)
+      (r : Front) (f : FrontOf (take (docsIn t b) docs) (take (docsIn t b) freqs) target r) where
+    -- as many documents are passed
+    abbrev n : ℕ
+    n = countBelow target (k .block .docs)
+
+    freqs-passed : sum (take n (k .block .freqs)) ≡ r .freqs
+    freqs-passed = sym (rw (k .docs-are, k .freqs-are) at (f .freqs-are))
+
+    whole-is : r .whole ≡ eqb n (length (k .block .docs))
+    whole-is = rw (k .docs-are) at (f .whole-is)
+
+    same : length (k .block .docs) ≡ length (k .block .freqs)
+    same = k .docs-many ∙ sym (k .freqs-many)
+
+    pub walk-stops : r .whole ≡ false → totalIn target (reading t bs) ≡ ok (passed + r .freqs)
+    unfolding added
+    walk-stops short =
+        let behind = reads-first t l bs b at least k in
+        let fewer : n < length (k .block .docs) =
+        ⊎-elim (λ e. absurd (eqb-false _ _ (sym whole-is ∙ short) e)) (λ h. h) (eq-or-lt-of-le (count-le target (k .block .docs))) in
+        w .total-is
+        ∙ ap (λ (x : Reading). added passed (totalIn target x)) (behind .1)
+        ∙ ap (λ (o : Outcome ℕ). added passed o) (total-stops target (k .block) (behind .0) same fewer)
+        ∙ rw freqs-passed
+
+    module _ (whole : r .whole ≡ true) where
+      -- a block that is passed whole, and what is read behind it
+      passes : (rest : Reading) → readingAt t l bs b at least ≡ (before (ok (k .block)) λ _. rest)
+          → totalIn target (reading t bs) ≡ added (passed + r .freqs) (totalIn target rest)
+      passes rest e =
+          let all : n ≡ length (k .block .docs) = eqb-true _ _ (sym whole-is ∙ whole) in
+          let freqs-all : sum (k .block .freqs) ≡ r .freqs =
+          ap (λ (fs : List ℕ). sum fs) (sym (take-all n (k .block .freqs) (omega (arith, same, all)))) ∙ freqs-passed in
+          w .total-is
+          ∙ ap (λ (x : Reading). added passed (totalIn target x)) e
+          ∙ ap (λ (o : Outcome ℕ). added passed o) (total-passes target (k .block) rest same all)
+          ∙ added-twice passed (sum (k .block .freqs)) (totalIn target rest)
+          ∙ ap (λ (m : ℕ). added (passed + m) (totalIn target rest)) freqs-all
+
+      pub walk-ends : fullBlocks t ≤ b → totalIn target (reading t bs) ≡ ok (passed + r .freqs)
+      unfolding added
+      walk-ends past =
+          passes (nothing 0) (reads-last t l bs b at least k past)
+          ∙ ap (λ (o : Outcome ℕ). added (passed + r .freqs) o) (total-ended target)
+          ∙ ap (λ (m : ℕ). ok m) (add-zero (passed + r .freqs))
+
+      pub walk-goes-on : b < fullBlocks t → Walked t l bs target (b + 1) (h .next) (h .«last_doc» + 1) (passed + r .freqs)
+      walk-goes-on some =
+          record {
+            block-most = omega arith;
+            inside = k .next some .inside;
+            passed-most = omega (arith, w .passed-most, f .freqs-most);
+            total-is = passes _ (reads-on t l bs b at least k some);
+          }

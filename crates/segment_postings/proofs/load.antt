@@ -1,0 +1,2 @@
+pub mod BlockQuestions
+pub mod TakeValuesCases

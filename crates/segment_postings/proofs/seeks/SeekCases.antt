@@ -1,0 +1,165 @@
+-- A seek, and the rank that a fresh cursor's seek finds: one law for each way through the tests.
+-- Assumes nothing.
+use mathlib.Core.Bool.{Bool, true, false, _&&_ as and, and-eq-true-iff}
+use mathlib.Core.List.{List}
+use mathlib.Core.Path.{_≡_, refl, sym, ap}
+use Prim.Native.Nat.{ℕ, _+_, _*_, _/_, _≤_, _<_}
+use borrow.Author.Tests.{leb-true, ltb-true, le-leb, lt-leb, lt-ltb, le-ltb}
+use lib.Dec.{eqb, leb, ltb}
+use lib.ListN.{getD}
+use Rattle.format.specs.declared.Term.{Term}
+use Rattle.format.specs.Basics.{Outcome, ok, refused, andThen, ask, choose, TERMINATED}
+use Rattle.format.specs.Refusal.{targetTooLarge, stateBroken}
+use Rattle.format.specs.Layout.{fullBlocks}
+use Rattle.block_search.specs.Search.{searchBlock}
+use Rattle.segment_postings.specs.declared.Held.{Held}
+use Rattle.segment_postings.specs.declared.Reached.{Reached}
+use Rattle.segment_postings.specs.declared.Reached.the-variants as reached-as
+use Rattle.segment_postings.specs.declared.SegmentPostings.{SegmentPostings}
+use Rattle.segment_postings.specs.Cursor.{inBounds, position, opening, atPlace, leaving, placeOf, within, behind, seeking, ranking}
+use Rattle.segment_postings.specs.Calls.{orBefore, cursorOf, heldOf, reached, Reaches}
+use Rattle.segment_postings.proofs.core.LandingParts.{reaches-as, reached-at, reached-nowhere}
+use Rattle.segment_postings.proofs.core.CursorTurns.{behind-is, seeking-is}
+
+-- ---- what follows a call on lent arrays
+
+module _ {o : Outcome SegmentPostings} {docs freqs docs′ freqs′ : List ℕ} {r : Reached} (k : Reaches o docs freqs docs′ freqs′ r) where
+  -- nothing, where it was refused
+  pub then-nowhere : (f : SegmentPostings → Outcome SegmentPostings) {n : ℕ} → r ≡ reached-as.Refused n
+      → Reaches (andThen o f) docs freqs docs′ freqs′ (reached-as.Refused n)
+  unfolding andThen reached orBefore
+  then-nowhere f e =
+      let none = reached-nowhere k e in
+      record { answer = rw none; docs-after = rw none (rw none at (k .docs-after)); freqs-after = rw none (rw none at (k .freqs-after)) }
+
+  -- the target's place in the block that it came to
+  pub then-placed : (target : ℕ) {h h′ : Held} {p : ℕ} → r ≡ reached-as.At h → p ≡ searchBlock docs′ target
+      → cursorOf h′ docs′ freqs′ ≡ atPlace (cursorOf h docs′ freqs′) p
+      → Reaches (andThen o λ landed. ok (atPlace landed (placeOf landed target))) docs freqs docs′ freqs′ (reached-as.At h′)
+  unfolding andThen placeOf reached orBefore heldOf cursorOf
+  then-placed target {h′ = h′} e place same =
+      let there = reached-at k e in
+      reaches-as {o′ = ok (cursorOf h′ docs′ freqs′)} (rw (there, ← place) (ap ok (sym same)))
+      (record { answer = refl; docs-after = refl; freqs-after = refl })
+
+-- ---- in the held block
+
+-- a place of the held block that may hold the target's document
+pub record MayHold (t : Term) (c : SegmentPostings) (target p : ℕ) : Type 0 where
+  pub ahead : c .place < p
+  pub inside : p < 128
+  pub reaches : target ≤ getD (c .docs) p 0
+  pub counted : 128 * c .block + p ≤ t .count
+
+module _ (c : SegmentPostings) (t : Term) (target : ℕ) where
+  abbrev pub tests : ℕ → Bool
+  tests p =
+      and (ltb (c .place) p)
+      (and (ltb p 128)
+      (and (leb target (getD (c .docs) p 0))
+      (leb (128 * c .block + p) (t .count))))
+
+  pub tested : {p : ℕ} → tests p ≡ true → MayHold t c target p
+  tested e =
+      let ahead = and-eq-true-iff _ _ .0 e in
+      let inside = and-eq-true-iff _ _ .0 (ahead .1) in
+      let reaches = and-eq-true-iff _ _ .0 (inside .1) in
+      record {
+        ahead = ltb-true _ _ (ahead .0);
+        inside = ltb-true _ _ (inside .0);
+        reaches = leb-true _ _ (reaches .0);
+        counted = leb-true _ _ (reaches .1);
+      }
+
+  pub within-is : within c t target ≡ ask (tests (placeOf c target)) stateBroken λ _. ok (atPlace c (placeOf c target))
+  unfolding within
+  within-is = refl
+
+  module _ {p : ℕ} (place : p ≡ placeOf c target) where
+    pub within-there : MayHold t c target p → within c t target ≡ ok (atPlace c p)
+    unfolding ask
+    within-there k =
+        rw (within-is, ← place, lt-ltb _ _ (k .ahead), lt-ltb _ _ (k .inside), le-leb _ _ (k .reaches), le-leb _ _ (k .counted))
+
+    pub within-none : (MayHold t c target p → ⊥) → within c t target ≡ refused stateBroken
+    unfolding ask
+    within-none never = rw (within-is, ← place) (go (tests p) refl)
+      where
+        go : (r : Bool) → tests p ≡ r → ask r stateBroken (λ _. ok (atPlace c p)) ≡ refused stateBroken
+        go true e = absurd (never (tested e))
+        go false e = refl
+
+-- ---- behind it
+
+module _ (c : SegmentPostings) (bs : List ℕ) (t : Term) (target : ℕ) where
+  pub behind-tail : t .count / 128 ≤ c .block → behind c bs t target ≡ refused stateBroken
+  unfolding ask fullBlocks
+  behind-tail h = rw (behind-is, le-ltb _ _ h)
+
+  pub behind-full : c .block < t .count / 128
+      → behind c bs t target ≡ andThen (leaving c bs t target) λ landed. ok (atPlace landed (placeOf landed target))
+  unfolding ask fullBlocks
+  behind-full h = rw (behind-is, lt-ltb _ _ h)
+
+-- ---- a seek
+
+module _ (c : SegmentPostings) (bs : List ℕ) (t : Term) (target : ℕ) where
+  pub seeking-broken : inBounds t bs c ≡ false → seeking c bs t target ≡ refused stateBroken
+  unfolding ask
+  seeking-broken e = rw (seeking-is, e)
+
+  module _ (in-bounds : inBounds t bs c ≡ true) where
+    pub seeking-ended : eqb (128 * c .block + c .place) (t .count) ≡ true → seeking c bs t target ≡ ok c
+    unfolding ask choose position
+    seeking-ended e = rw (seeking-is, in-bounds, e)
+
+    module _ (before : eqb (128 * c .block + c .place) (t .count) ≡ false) where
+      pub seeking-too-large : TERMINATED < target → seeking c bs t target ≡ refused targetTooLarge
+      unfolding ask choose position
+      seeking-too-large h = rw (seeking-is, in-bounds, before, lt-leb _ _ h)
+
+      module _ (small : target ≤ TERMINATED) where
+        pub seeking-stays : target ≤ getD (c .docs) (c .place) 0 → seeking c bs t target ≡ ok c
+        unfolding ask choose position
+        seeking-stays h = rw (seeking-is, in-bounds, before, le-leb _ _ small, le-leb _ _ h)
+
+        module _ (ahead : getD (c .docs) (c .place) 0 < target) where
+          pub seeking-within : target ≤ c .«last_doc» → seeking c bs t target ≡ within c t target
+          unfolding ask choose position
+          seeking-within h = rw (seeking-is, in-bounds, before, le-leb _ _ small, lt-leb _ _ ahead, le-leb _ _ h)
+
+          pub seeking-behind : c .«last_doc» < target → seeking c bs t target ≡ behind c bs t target
+          unfolding ask choose position
+          seeking-behind h = rw (seeking-is, in-bounds, before, le-leb _ _ small, lt-leb _ _ ahead, lt-leb _ _ h)
+
+-- ---- the rank
+
+module _ (mode count : ℕ) (bs : List ℕ) (target : ℕ) where
+  abbrev term : Term
+  term = record { mode = mode; requested = 0; count = count }
+
+  pub ranking-is : ranking mode count bs target
+      ≡ (ask (leb target TERMINATED) targetTooLarge λ _.
+      andThen (opening bs term) λ c.
+      andThen (seeking c bs term target) λ d.
+      ok (position d))
+  unfolding ranking
+  ranking-is = refl
+
+  pub ranking-too-large : TERMINATED < target → ranking mode count bs target ≡ refused targetTooLarge
+  unfolding ask
+  ranking-too-large h = rw (ranking-is, lt-leb _ _ h)
+
+  module _ (small : target ≤ TERMINATED) where
+    pub ranking-unopened : {n : ℕ} → opening bs term ≡ refused n → ranking mode count bs target ≡ refused n
+    unfolding ask andThen
+    ranking-unopened e = rw (ranking-is, le-leb _ _ small, e)
+
+    module _ {c : SegmentPostings} (opens : opening bs term ≡ ok c) where
+      pub ranking-unsought : {n : ℕ} → seeking c bs term target ≡ refused n → ranking mode count bs target ≡ refused n
+      unfolding ask andThen
+      ranking-unsought e = rw (ranking-is, le-leb _ _ small, opens, e)
+
+      pub ranking-found : {d : SegmentPostings} → seeking c bs term target ≡ ok d → ranking mode count bs target ≡ ok (128 * d .block + d .place)
+      unfolding ask andThen position
+      ranking-found e = rw (ranking-is, le-leb _ _ small, opens, e)

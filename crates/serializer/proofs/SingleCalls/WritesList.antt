@@ -1,0 +1,260 @@
+-- A list whose documents are handed in one by one. From a fresh state the calls go on as long as the definitions accept a document and
+-- the areas have room for its block; behind the last one the areas hold the full blocks and their entries, and the state the tail, so
+-- that closing puts together the image.
+-- Assumes nothing.
+use mathlib.Core.Bool.{Bool, true, false, and-false}
+use mathlib.Core.List.{List, [], _∷_, _++_, append-nil}
+use mathlib.Core.Logic.{_≢_, _⊎_, inl, inr}
+use mathlib.Core.Path.{_≡_, refl, sym, _∙_}
+use Prim.Native.Nat.{ℕ, suc, _+_, _/_, _≤_, _<_, _^_}
+use native.Mathlib.Nat.{zero-add, le-trans}
+use native.Mathlib.Numerals.{one-add}
+use native.Mathlib.Omega.{arith}
+use borrow.Author.Tests.{le-leb, lt-leb, eq-eqb, ne-eqb}
+use lib.Dec.{eqb}
+use lib.ListN.{length, take}
+use Rattle.format.specs.declared.IndexRecordOption.{IndexRecordOption}
+use Rattle.format.specs.Basics.{Outcome, ok, refused, andThen, ask, putAt, fitsAt}
+use Rattle.format.specs.Refusal.{noRoom, countMismatch, stateBroken}
+use Rattle.format.specs.Values.{rising, countable}
+use Rattle.format.specs.Written.{Parts, headed, image}
+use Rattle.format.specs.Accepted.{keptIn, begin, takeDoc, takeDocs, written}
+use Rattle.format.proofs.Lists.{AllBelow}
+use Rattle.format.proofs.Outcome.{refused≢ok, andThen-ok}
+use Rattle.format.proofs.Opened.{image-is}
+use Rattle.format.proofs.Accepted.{written-ok}
+use Rattle.serializer.specs.declared.PostingsSerializer.{PostingsSerializer}
+use Rattle.serializer.specs.Writer.{after, Areas, tailOf, fresh, optionOf, waitingDocs, waitingFreqs, firstLeast, leastAfter}
+use Rattle.serializer.specs.Writer.{inBounds, imageOf, closing, takeAll, acceptedCount, blocksOf}
+use Rattle.serializer.proofs.list.Blocks.{blocks-fewer}
+use Rattle.serializer.proofs.document.OneDocument.{nextLeast, Held, in-bounds}
+use Rattle.serializer.proofs.SingleCalls.BlocksAhead.{Maker, ahead, room}
+use Rattle.serializer.proofs.SingleCalls.AllDocuments.{Ended, Answers, answers-room, answers-refused, answers-ok, all-calls}
+
+-- the full blocks of the documents that are accepted at a list's front
+abbrev pub acceptedBlocks : ℕ → Bool → List ℕ → List ℕ → Parts
+acceptedBlocks mode recording ds fs =
+    let option : IndexRecordOption = keptIn mode recording in
+    blocksOf option (acceptedCount option 0 ds fs / 128) 0 ds fs
+
+-- What single calls leave of a list that is written as `image`: its full blocks and their entries at the front of the areas, every
+-- other byte as before. Closing under the list's count gives the image if it fits the output
+pub record WritesList (mode : ℕ) (recording : Bool) (ds fs skips postings image : List ℕ) : Type 0 where
+  pub areas : Areas
+  pub takes : takeAll (fresh mode recording) ds fs skips postings ≡ ok areas
+  pub skips-after : areas .skips ≡ putAt 0 (blocksOf (keptIn mode recording) (length ds / 128) 0 ds fs .skips) skips
+  pub postings-after : areas .postings ≡ putAt 0 (blocksOf (keptIn mode recording) (length ds / 128) 0 ds fs .postings) postings
+  pub closes : (output : List ℕ) → length image ≤ length output
+      → closing (areas .state) (length ds) (areas .skips) (areas .postings) output ≡ ok image
+  pub no-room : (output : List ℕ) → length output < length image
+      → closing (areas .state) (length ds) (areas .skips) (areas .postings) output ≡ refused noRoom
+  pub miscounted : (announced : ℕ) (output : List ℕ) → announced ≢ length ds
+      → closing (areas .state) announced (areas .skips) (areas .postings) output ≡ refused countMismatch
+
+-- ---- the definitions, opened by one turn
+
+closing-is : (s : PostingsSerializer) (announced : ℕ) (skips postings output : List ℕ)
+    → closing s announced skips postings output
+    ≡ (ask (inBounds s skips postings) stateBroken λ _.
+    ask (eqb (s .taken) announced) countMismatch λ _.
+    ask (fitsAt 0 (imageOf s skips postings) output) noRoom λ _. ok (imageOf s skips postings))
+unfolding closing
+closing-is s announced skips postings output = refl
+
+imageOf-is : (s : PostingsSerializer) (skips postings : List ℕ)
+    → imageOf s skips postings
+    ≡ headed (s .taken / 128) (record {
+      skips = take (s .«skips_at») skips;
+      postings = take (s .«postings_at») postings ++ tailOf (optionOf s) (firstLeast s) (waitingDocs s) (waitingFreqs s);
+    })
+unfolding imageOf
+imageOf-is s skips postings = refl
+
+-- ---- how many documents are accepted
+
+accepted-all : (option : IndexRecordOption) (least : ℕ) (ds fs : List ℕ) {next : ℕ} → takeDocs option least ds fs ≡ ok next
+    → acceptedCount option least ds fs ≡ length ds
+unfolding acceptedCount takeDocs after
+accepted-all option least [] fs t = refl
+accepted-all option least (d ∷ ds) [] t = absurd (refused≢ok t)
+accepted-all option least (d ∷ ds) (f ∷ fs) t =
+    let p = andThen-ok (takeDoc option least d f) (λ next. takeDocs option next ds fs) t in
+    rw (p .1, accepted-all option _ ds fs (p .2), one-add)
+
+one-more-le : {n : ℕ} (count : ℕ → ℕ) → ((next : ℕ) → count next ≤ n) → (o : Outcome ℕ) → after (λ next. 1 + count next) o 0 ≤ suc n
+unfolding after
+one-more-le count h (ok next) = omega (arith, h next)
+one-more-le count h (refused m) = omega arith
+
+accepted-le : (option : IndexRecordOption) (least : ℕ) (ds fs : List ℕ) → acceptedCount option least ds fs ≤ length ds
+unfolding acceptedCount
+accepted-le option least [] fs = omega arith
+accepted-le option least (d ∷ ds) [] = omega arith
+accepted-le option least (d ∷ ds) (f ∷ fs) = one-more-le _ (λ next. accepted-le option next ds fs) (takeDoc option least d f)
+
+-- ---- a refusal comes from the documents
+
+andThen-refused : {A B : Type 0} {n : ℕ} (o : Outcome A) (f : A → B) → andThen o (λ a. ok (f a)) ≡ refused n → o ≡ refused n
+unfolding andThen
+andThen-refused (ok a) f e = absurd (refused≢ok (sym e))
+andThen-refused (refused m) f e = cc
+
+-- ---- a fresh state
+
+module _ (mode : ℕ) (recording : Bool) where
+  fresh-option : optionOf (fresh mode recording) ≡ keptIn mode recording
+  unfolding optionOf fresh
+  fresh-option = refl
+
+  fresh-none : fresh mode recording .waiting ≡ 0
+  unfolding fresh
+  fresh-none = refl
+
+  fresh-least : firstLeast (fresh mode recording) ≡ 0
+  unfolding firstLeast fresh
+  fresh-least = refl
+
+  fresh-docs : waitingDocs (fresh mode recording) ≡ []
+  unfolding waitingDocs fresh
+  fresh-docs = refl
+
+  fresh-freqs : waitingFreqs (fresh mode recording) ≡ []
+  unfolding waitingFreqs fresh
+  fresh-freqs = refl
+
+  fresh-next : nextLeast (fresh mode recording) ≡ 0
+  unfolding leastAfter
+  fresh-next = rw (fresh-docs, fresh-least)
+
+  fresh-held : (skips postings : List ℕ) → mode ≤ 1 → Held (fresh mode recording) skips postings
+  unfolding fresh rising countable
+  fresh-held skips postings known =
+      record {
+        docs-long = refl;
+        freqs-long = refl;
+        few = omega arith;
+        rises = rw fresh-docs;
+        counts = λ _. rw fresh-freqs;
+        placed = omega arith;
+        least-most = rw fresh-next (omega arith);
+        skips-within = omega arith;
+        postings-within = omega arith;
+        mode-known = known;
+      }
+
+  fresh-ahead : (ds fs : List ℕ) (F : Maker)
+      → ahead F (fresh mode recording) ds fs ≡ F (keptIn mode recording) (acceptedCount (keptIn mode recording) 0 ds fs / 128) 0 ds fs
+  unfolding ahead
+  fresh-ahead ds fs F = rw (fresh-next, fresh-least, fresh-docs, fresh-freqs, fresh-option, fresh-none, zero-add)
+
+-- ---- all documents, from there on
+
+module _ (mode : ℕ) (recording : Bool) (ds fs skips postings : List ℕ) (small : AllBelow (2 ^ 32) fs) (known : mode ≤ 1)
+    (as-many : length ds ≡ length fs) where
+  abbrev option : IndexRecordOption
+  option = keptIn mode recording
+
+  abbrev blocks : Parts
+  blocks = acceptedBlocks mode recording ds fs
+
+  written-is : written mode recording ds fs ≡ andThen (takeDocs option 0 ds fs) λ _. ok (image option ds fs)
+  unfolding written begin ask andThen
+  written-is = rw (le-leb _ _ known, eq-eqb _ _ as-many)
+
+  answers :
+      Answers (Ended (fresh mode recording) ds fs skips postings) (room blocks (fresh mode recording) skips postings)
+      (takeDocs option 0 ds fs) (takeAll (fresh mode recording) ds fs skips postings)
+  answers =
+      rw (fresh-ahead, fresh-next, fresh-option)
+      at (all-calls (fresh mode recording) ds fs skips postings (fresh-held mode recording skips postings known) small as-many)
+
+  room-there : length (blocks .skips) ≤ length skips → length (blocks .postings) ≤ length postings
+      → room blocks (fresh mode recording) skips postings ≡ true
+  unfolding fresh fitsAt
+  room-there a b = rw (zero-add, zero-add, le-leb _ _ a, le-leb _ _ b)
+
+  room-missing : (length skips < length (blocks .skips)) ⊎ (length postings < length (blocks .postings))
+      → room blocks (fresh mode recording) skips postings ≡ false
+  unfolding fresh fitsAt
+  room-missing (inl a) = rw (zero-add, lt-leb _ _ a)
+  room-missing (inr b) = rw (zero-add, zero-add, lt-leb _ _ b, and-false)
+
+  module _ {r : Outcome Areas} (ended : Ended (fresh mode recording) ds fs skips postings r)
+      (all : acceptedCount option 0 ds fs ≡ length ds) where
+    taken-all : ended .areas .state .taken ≡ length ds
+    unfolding fresh
+    taken-all = ended .taken ∙ zero-add (length ds)
+
+    -- the areas hold the image's parts
+    ended-image : imageOf (ended .areas .state) (ended .areas .skips) (ended .areas .postings) ≡ image option ds fs
+    unfolding fresh
+    ended-image =
+        let skips-are = rw (append-nil, fresh-ahead, all) at (ended .skips-wrote .holds) in
+        let postings-are = rw (fresh-ahead, all) at (ended .postings-wrote .holds) in
+        rw (imageOf-is, image-is, skips-are, postings-are, taken-all)
+
+    ended-closes : (announced : ℕ) (output : List ℕ)
+        → closing (ended .areas .state) announced (ended .areas .skips) (ended .areas .postings) output
+        ≡ (ask (eqb (length ds) announced) countMismatch λ _.
+        ask (fitsAt 0 (image option ds fs) output) noRoom λ _. ok (image option ds fs))
+    unfolding ask
+    ended-closes announced output = rw (closing-is, in-bounds (ended .held), ended-image, taken-all)
+
+    ended-writes : takeAll (fresh mode recording) ds fs skips postings ≡ r
+        → WritesList mode recording ds fs skips postings (image option ds fs)
+    unfolding fresh ask fitsAt
+    ended-writes e =
+        record {
+          areas = ended .areas;
+          takes = e ∙ ended .answer;
+          skips-after = rw (fresh-ahead, all) at (ended .skips-wrote .put);
+          postings-after = rw (fresh-ahead, all) at (ended .postings-wrote .put);
+          closes = λ output fits. ended-closes (length ds) output ∙ rw (eq-eqb (length ds) _ refl, zero-add, le-leb _ _ fits);
+          no-room = λ output fits. ended-closes (length ds) output ∙ rw (eq-eqb (length ds) _ refl, zero-add, lt-leb _ _ fits);
+          miscounted = λ announced output other. ended-closes announced output ∙ rw (ne-eqb (length ds) announced (λ e. other (sym e)));
+        }
+
+  calls-write : {bytes : List ℕ} → written mode recording ds fs ≡ ok bytes → bytes ≡ image option ds fs
+      → length (blocksOf option (length ds / 128) 0 ds fs .skips) ≤ length skips
+      → length (blocksOf option (length ds / 128) 0 ds fs .postings) ≤ length postings
+      → WritesList mode recording ds fs skips postings bytes
+  calls-write e same a b =
+      let t = andThen-ok (takeDocs option 0 ds fs) (λ _. ok (image option ds fs)) (sym written-is ∙ e) in
+      let all : acceptedCount option 0 ds fs ≡ length ds = accepted-all option 0 ds fs (t .1) in
+      rw same (ended-writes (answers-ok answers (room-there (rw all a) (rw all b)) (t .1)) all refl)
+
+  -- A list refused for a document (11 to 13) is refused by the call that it is handed to, where there is room for the full blocks of
+  -- the documents before it ..
+  pub single-calls-refuse : {n : ℕ} → written mode recording ds fs ≡ refused n
+      → length (acceptedBlocks mode recording ds fs .skips) ≤ length skips
+      → length (acceptedBlocks mode recording ds fs .postings) ≤ length postings
+      → takeAll (fresh mode recording) ds fs skips postings ≡ refused n
+  single-calls-refuse e a b =
+      answers-refused answers (room-there a b) (andThen-refused _ (λ _. image option ds fs) (sym written-is ∙ e))
+
+  -- .. so too where there is room for all full blocks of the list ..
+  pub single-calls-refuse-alike : {n : ℕ} → written mode recording ds fs ≡ refused n
+      → length (blocksOf (keptIn mode recording) (length ds / 128) 0 ds fs .skips) ≤ length skips
+      → length (blocksOf (keptIn mode recording) (length ds / 128) 0 ds fs .postings) ≤ length postings
+      → takeAll (fresh mode recording) ds fs skips postings ≡ refused n
+  single-calls-refuse-alike e a b =
+      let some = accepted-le option 0 ds fs in
+      let fewer = blocks-fewer option (acceptedCount option 0 ds fs / 128) (length ds / 128) 0 ds fs (omega arith) (omega arith) in
+      single-calls-refuse e (le-trans (fewer .0) a) (le-trans (fewer .1) b)
+
+  -- .. and under 15, as an accepted one is, where there is none
+  pub single-calls-no-room :
+      (length skips < length (acceptedBlocks mode recording ds fs .skips))
+      ⊎ (length postings < length (acceptedBlocks mode recording ds fs .postings))
+      → takeAll (fresh mode recording) ds fs skips postings ≡ refused noRoom
+  single-calls-no-room short = answers-room answers (room-missing short)
+
+-- Promise 2 of the order, "a written list", for single calls; and the writer never answers 15 where the room is there
+pub single-calls-write : (mode : ℕ) (recording : Bool) (ds fs skips postings : List ℕ) {bytes : List ℕ} → AllBelow (2 ^ 32) fs
+    → written mode recording ds fs ≡ ok bytes
+    → length (blocksOf (keptIn mode recording) (length ds / 128) 0 ds fs .skips) ≤ length skips
+    → length (blocksOf (keptIn mode recording) (length ds / 128) 0 ds fs .postings) ≤ length postings
+    → WritesList mode recording ds fs skips postings bytes
+single-calls-write mode recording ds fs skips postings small e =
+    let w = written-ok mode recording ds fs small e in
+    calls-write mode recording ds fs skips postings small (w .mode-known) (w .accepted .as-many) e (w .bytes)

@@ -1,0 +1,2 @@
+pub mod OneDocument
+pub mod TakeCases

@@ -1,0 +1,7 @@
+pub mod AreasLoop
+pub mod BlockPlaces
+pub mod Blocks
+pub mod CheckLoop
+pub mod ListCases
+pub mod QuestionTurns
+pub mod WholeList
