@@ -1,14 +1,18 @@
 #!/usr/bin/env python3
-"""Tries wrong programs by the edit loop: each is applied to a copy of the repository, and `rt dev` must refuse its crate.
+"""Tries wrong programs by the edit loop: each is applied to a copy of the repository, and `rt dev` must refuse its crate because a
+fact fails.
 
     tests/try-edits.py            those of tests/edits, which `rt ci` doesn't try; the gate calls this
     tests/try-edits.py NAME...    all those of the crates named, of crates/NAME/must-fail too
 
-An edit takes seconds here and a whole check of its crate in `rt ci`. Ends with 1 where one is proved, or a crate isn't without any."""
+Prints a line for each edit: the place of the first fact that fails, and what the prover says of it. An edit takes seconds here and a
+whole check of its crate in `rt ci`. It ends with 1 where an edit is proved, where a proof file only no longer fits the code (a name
+that isn't there, a case of another name, text that doesn't parse), or where a crate isn't proved without any."""
 
 import concurrent.futures
 import os
 import pathlib
+import queue
 import re
 import shutil
 import subprocess
@@ -17,6 +21,17 @@ import tempfile
 
 ROOT = pathlib.Path(__file__).resolve().parent.parent
 KEPT = ROOT / "tests/edits"
+WORKERS = os.cpu_count() or 1
+
+ERROR = re.compile(r"^\S*/crates/(\S+): error: (.*(?:\n  .*)*)", re.M)
+# What an error says that only follows from another one.
+FOLLOWS = re.compile(r"was not admitted|is not admitted|were not admitted|did not check|was rejected")
+# What an error says where a proof file doesn't fit the code: a name that isn't there, or one case of the code in place of another.
+MISFITS = re.compile(
+    r"can be named from here|not in scope|no such|unknown|expected .*token|parse|"
+    r"\.(?:Lts|Tie)\.(?:After|Left|Need)-\S+`\s+\((?:expected|found)\)|"
+    r"differ only where one has `\S*\.(?:Lts|Tie)\.(?:After|Left|Need)-"
+)
 
 
 def check(copy, crate):
@@ -37,8 +52,21 @@ def changes(edit):
     return found
 
 
-def refused(copy, crate, edit):
-    """Whether the crate is refused with the edit, and a line that says where first."""
+def judged(said):
+    """Whether a fact fails and the proofs fit the code, and what to say of it."""
+    if "logic=proved" in said:
+        return False, "NOT REFUSED"
+    errors = [(place, text) for place, text in ERROR.findall(said) if not FOLLOWS.search(text)]
+    misfits = [error for error in errors if not error[0].split(":")[0].endswith(".antt") or MISFITS.search(error[1])]
+    if misfits or not errors:
+        place, text = (misfits or [("", said[-200:])])[0]
+        return False, f"NO FACT FAILS, {place} {' '.join(text.split())[:200]}"
+    place, text = errors[0]
+    return True, f"refused, {place} {' '.join(text.split())[:120]}"
+
+
+def tried(copy, crate, edit):
+    """Whether the crate is refused with the edit because a fact fails, and a line that says so."""
     before = {}
     for file, old, new in changes(edit):
         path = copy / "crates" / crate / file
@@ -47,36 +75,62 @@ def refused(copy, crate, edit):
         if text.count(old) != 1:
             raise SystemExit(f"{edit}: its old text is there {text.count(old)} times")
         path.write_text(text.replace(old, new))
-    said = check(copy, crate)
+    good, line = judged(check(copy, crate))
     for path, text in before.items():
         path.write_text(text)
-    first = re.search(r"^\S*/crates/(\S*): error: .*$", said, re.M) or re.search(r"^note: \S*/crates/(\S*): .*$", said, re.M)
-    refusal = "logic=not-proved" in said
-    return refusal, f"{crate}/{edit.stem}: {'refused' if refusal else 'NOT REFUSED'}, {first.group(1) if first else said[-200:]}"
+    return good, f"{crate}/{edit.stem}: {line}"
 
 
-def try_all(crate, edits):
-    """How many of a crate's edits are not refused, and what to print."""
-    with tempfile.TemporaryDirectory() as folder:
-        copy = pathlib.Path(folder) / "copy"
-        shutil.copytree(ROOT, copy, ignore=shutil.ignore_patterns(".git", "differential", "inc"))
-        if "logic=proved" not in check(copy, crate):
-            return 1, [f"{crate}: not proved without an edit"]
-        outcomes = [refused(copy, crate, edit) for edit in edits]
-    proved = sum(not refusal for refusal, _ in outcomes)
-    return proved, [line for _, line in outcomes] + [f"{crate}: {len(edits) - proved} edits refused, {proved} not"]
+class Copies:
+    """Copies of the repository with a crate checked in each, as many as edits of the crate are tried at a time."""
+
+    def __init__(self, folder, crate):
+        self.first = pathlib.Path(folder) / crate / "0"
+        self.crate = crate
+        self.made = 1
+        self.free = queue.SimpleQueue()
+
+    def prepare(self):
+        shutil.copytree(ROOT, self.first, ignore=shutil.ignore_patterns(".git", "differential", "must-fail", "inc", "rlib"))
+        # The libraries below the crate are read alone.
+        rlib = ROOT / "target/rlib"
+        rlib.mkdir(parents=True, exist_ok=True)
+        (self.first / "target").mkdir(exist_ok=True)
+        (self.first / "target/rlib").symlink_to(rlib)
+        proved = "logic=proved" in check(self.first, self.crate)
+        for i in range(1, WORKERS):
+            shutil.copytree(self.first, self.first.parent / str(i), symlinks=True)
+            self.free.put(self.first.parent / str(i))
+        self.free.put(self.first)
+        return proved, f"{self.crate}: {'proved' if proved else 'NOT PROVED'} without an edit"
+
+    def try_one(self, edit):
+        copy = self.free.get()
+        try:
+            return tried(copy, self.crate, edit)
+        finally:
+            self.free.put(copy)
 
 
 def main():
     folders = {name: [KEPT / name, ROOT / "crates" / name / "must-fail"] for name in sys.argv[1:]}
-    folders = folders or {folder.name: [folder] for folder in sorted(KEPT.iterdir())}
-    jobs = [(crate, sorted(edit for folder in of for edit in folder.glob("*.edit"))) for crate, of in folders.items()]
-    failed = 0
-    with concurrent.futures.ThreadPoolExecutor(os.cpu_count()) as pool:
-        for proved, lines in pool.map(lambda job: try_all(*job), jobs):
-            print("\n".join(lines), flush=True)
-            failed += proved
-    sys.exit(failed > 0)
+    folders = folders or {folder.name: [folder] for folder in KEPT.iterdir()}
+    edits = {crate: sorted(edit for folder in of for edit in folder.glob("*.edit")) for crate, of in folders.items()}
+    # The crates with most edits first, so that no processor waits at the end.
+    edits = dict(sorted(edits.items(), key=lambda item: -len(item[1])))
+    with tempfile.TemporaryDirectory() as folder, concurrent.futures.ThreadPoolExecutor(WORKERS) as pool:
+        copies = {crate: Copies(folder, crate) for crate in edits}
+        runs = list(pool.map(lambda crate: copies[crate].prepare(), edits))
+        if all(good for good, _ in runs):
+            jobs = [(crate, edit) for crate, of in edits.items() for edit in of]
+            runs += pool.map(lambda job: copies[job[0]].try_one(job[1]), jobs)
+        failed = 0
+        for good, line in runs:
+            print(line, flush=True)
+            failed += not good
+    tried_edits = len(runs) - len(edits)
+    print(f"edits: {tried_edits} tried, {failed} not refused because a fact fails")
+    sys.exit(failed > 0 or tried_edits == 0)
 
 
 main()
