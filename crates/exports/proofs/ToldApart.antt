@@ -14,8 +14,8 @@ use Rattle.format.proofs.Outcome.{ok-same, andThen-ok}
 use Rattle.segment_postings.specs.Calls.{valued}
 use Rattle.segment_postings.specs.Cursor.{ranking}
 use Rattle.segment_postings.specs.ReadWhole.{readWhole}
-use Rattle.segment_postings.proofs.counts.BelowMark.{total-most, rank-most}
-use Rattle.segment_postings.proofs.whole.ReadQuestions.{read-many}
+use Rattle.segment_postings.proofs.Laws.BelowMark.{total-most, rank-most}
+use Rattle.segment_postings.proofs.Laws.ReadQuestions.{read-many}
 use Rattle.exports.specs.Reading.{codedValue}
 
 pub record Told (o : Outcome ℕ) (r : ℕ) : Type 0 where

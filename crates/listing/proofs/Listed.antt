@@ -20,8 +20,8 @@ use Rattle.serializer.specs.declared.Answer.{Answer}
 use Rattle.serializer.specs.declared.Answer.the-variants.{Bytes, Refused}
 use Rattle.serializer.specs.Writer as writer
 use Rattle.serializer.specs.Calls.{answered, Listed}
-use Rattle.serializer.proofs.list.BlockPlaces.{put-front}
-use Rattle.serializer.proofs.list.WholeList.{whole-list-writes}
+use Rattle.serializer.proofs.Laws.BlockPlaces.{put-front}
+use Rattle.serializer.proofs.Laws.WholeList.{whole-list-writes}
 use Rattle.listing.specs.declared.table.Parsed.{Parsed}
 use Rattle.listing.specs.declared.table.Parsed.the-variants.{Rows, Malformed}
 use Rattle.listing.specs.Input.{table, taken, count, Reads}

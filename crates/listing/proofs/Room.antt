@@ -20,9 +20,9 @@ use Rattle.format.proofs.Accepted.{Written, written-ok}
 use Rattle.serializer.specs.Pieces.{headOf}
 use Rattle.serializer.specs.Writer.{blocksOf}
 use Rattle.serializer.specs.Whole.{fullBlocks, imageFrom}
-use Rattle.serializer.proofs.image.ImagePieces.{head-none, head-some, image-length}
-use Rattle.serializer.proofs.list.BlockPlaces.{postings-most, full-skips, image-from}
-use Rattle.serializer.proofs.list.WholeList.{HasRoom}
+use Rattle.serializer.proofs.Laws.ImagePieces.{head-none, head-some, image-length}
+use Rattle.serializer.proofs.Laws.BlockPlaces.{postings-most, full-skips, image-from}
+use Rattle.serializer.proofs.Laws.WholeList.{HasRoom}
 
 kept : keptIn 1 true ≡ WithFreqs
 unfolding keptIn choose

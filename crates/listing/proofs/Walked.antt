@@ -15,7 +15,7 @@ use Rattle.segment_postings.specs.declared.SegmentPostings.{SegmentPostings}
 use Rattle.segment_postings.specs.Cursor.{answerAt, moved, blank, opened, advanced}
 use Rattle.segment_postings.specs.Called.{shown}
 use Rattle.segment_postings.proofs.Simulation.StepSimulates.{Agrees, docs-count, opening-agrees, answer-agrees, stepping-agrees}
-use Rattle.segment_postings.proofs.core.CursorTurns.{moved-ok, opened-is, advanced-is}
+use Rattle.segment_postings.proofs.Laws.CursorTurns.{moved-ok, opened-is, advanced-is}
 use Rattle.listing.specs.Output.{line, linesOf, steps, Puts}
 use Rattle.listing.proofs.Decimal.{line-most}
 use Rattle.listing.proofs.Putting.{puts-none, puts-length, puts-then}

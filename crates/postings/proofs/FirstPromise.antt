@@ -31,7 +31,7 @@ use Rattle.serializer.specs.declared.PostingsSerializer.{PostingsSerializer}
 use Rattle.serializer.specs.declared.Step.{Step}
 use Rattle.serializer.specs.Writer.{Areas, after, listing, closing}
 use Rattle.serializer.specs.Calls.{answered, Settled, Closed, Listed}
-use Rattle.serializer.proofs.list.WholeList.{HasRoom, whole-list-writes}
+use Rattle.serializer.proofs.Laws.WholeList.{HasRoom, whole-list-writes}
 
 -- ---- accepted lists
 

@@ -18,7 +18,7 @@ use Rattle.segment_postings.specs.declared.Answer.the-variants.{At, Refused}
 use Rattle.segment_postings.specs.declared.SegmentPostings.{SegmentPostings}
 use Rattle.segment_postings.specs.Cursor.{position, stepping, advanced, seeking, sought}
 use Rattle.segment_postings.specs.Called.{calls}
-use Rattle.segment_postings.proofs.core.LooksAt.{same-bounds}
+use Rattle.segment_postings.proofs.Laws.LooksAt.{same-bounds}
 
 module _ (c : SegmentPostings) (t : Term) (bs bs′ : List ℕ) (same : length bs ≡ length bs′) where
   -- at the end

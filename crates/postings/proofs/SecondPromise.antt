@@ -31,7 +31,7 @@ use Rattle.serializer.specs.declared.Answer.the-variants.{Bytes}
 use Rattle.serializer.specs.Writer as writer
 use Rattle.serializer.specs.Writer.{listing}
 use Rattle.serializer.specs.Calls.{Listed}
-use Rattle.serializer.proofs.list.WholeList.{whole-list-writes, whole-list-sound, whole-list-reads-back}
+use Rattle.serializer.proofs.Laws.WholeList.{whole-list-writes, whole-list-sound, whole-list-reads-back}
 use Rattle.segment_postings.specs.declared.Answer.{Answer}
 use Rattle.segment_postings.specs.declared.Moved.{Moved}
 use Rattle.segment_postings.specs.declared.SegmentPostings.{SegmentPostings}

@@ -1,3 +1,2 @@
-pub mod BelowMark
 pub mod TotalInBlocks
 pub mod TotalLoop

@@ -1,2 +1,1 @@
 pub mod ReadLoop
-pub mod ReadQuestions

@@ -1,2 +1,1 @@
 pub mod CloseCases
-pub mod ImagePieces

@@ -17,7 +17,7 @@ use Rattle.serializer.specs.declared.Answer.{Answer}
 use Rattle.serializer.specs.declared.Answer.the-variants.{Bytes, Refused}
 use Rattle.serializer.specs.Calls.{answered, Listed}
 use Rattle.serializer.specs.Writer.{after, listing}
-use Rattle.serializer.proofs.list.WholeList.{whole-list-writes}
+use Rattle.serializer.proofs.Laws.WholeList.{whole-list-writes}
 use Rattle.vectors.specs.Replay.{sameBytes, isImage, writesImage}
 
 -- ---- bytes compared

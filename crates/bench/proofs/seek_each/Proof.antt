@@ -7,8 +7,8 @@ use native.Mathlib.Omega.{arith}
 use borrow.Author.Needs.{needs}
 use lib.ListN.{length}
 use Rattle.segment_postings.specs.Calls.{cursorOf}
-use Rattle.segment_postings.proofs.core.LandingParts.{reached-at, reached-nowhere}
-use Rattle.segment_postings.proofs.core.ReachedBounds.{seeking-near}
+use Rattle.segment_postings.proofs.Laws.LandingParts.{reached-at, reached-nowhere}
+use Rattle.segment_postings.proofs.Laws.ReachedBounds.{seeking-near}
 use Rattle.bench.proofs.Serving.{Serving, none-served, seeks-unopened, serving-first, serving-on, serving-refused, serving-all}
 use Rattle.bench.proofs.seek_each.Statement.{statement}
 use Rattle.bench.proofs.seek_each.Tie as tie

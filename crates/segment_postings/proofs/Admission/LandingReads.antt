@@ -27,7 +27,7 @@ use Rattle.segment_postings.specs.Calls.{cursorOf}
 use Rattle.segment_postings.specs.Passed.{docsIn}
 use Rattle.segment_postings.proofs.find.FoundBlock.{entryOf}
 use Rattle.segment_postings.proofs.load.BlockQuestions.{load-full, load-tail}
-use Rattle.segment_postings.proofs.core.CursorTurns.{landing-is}
+use Rattle.segment_postings.proofs.Laws.CursorTurns.{landing-is}
 use Rattle.segment_postings.proofs.Admission.WalkReads.{loadedAt, loadedAt-found, loadedAt-numbered, reads-none, readingAt, readingAt-entry, readingAt-tail}
 use Rattle.segment_postings.proofs.Admission.WalkReads.{entry-same, found-entry, found-same}
 

@@ -28,8 +28,8 @@ use Rattle.segment_postings.proofs.Admission.LandingReads.{BlockHeld, b
 use Rattle.segment_postings.proofs.core.Question16.{in-bounds}
 use Rattle.segment_postings.proofs.find.FoundBlock.{found-from, found-there}
 use Rattle.segment_postings.proofs.Simulation.HoldsBlock.{getD-there}
-use Rattle.segment_postings.proofs.core.LandingParts.{starts-behind, leaving-laid, stepping-ended, stepping-within, stepping-leaves}
-use Rattle.segment_postings.proofs.core.CursorTurns.{landing-is, answerAt-is}
+use Rattle.segment_postings.proofs.Laws.LandingParts.{starts-behind, leaving-laid, stepping-ended, stepping-within, stepping-leaves}
+use Rattle.segment_postings.proofs.Laws.CursorTurns.{landing-is, answerAt-is}
 use Rattle.segment_postings.proofs.Admission.WalkReads.{readingAt, found-same, reading-whole}
 
 -- ---- blocks in a row

@@ -23,7 +23,7 @@ use Rattle.segment_postings.specs.declared.Moved.{Moved}
 use Rattle.segment_postings.specs.declared.SegmentPostings.{SegmentPostings}
 use Rattle.segment_postings.specs.Cursor.{landing, answerAt, moved, blank, opening, opened, atPlace, stepping, advanced}
 use Rattle.segment_postings.proofs.Admission.LandingReads.{landing-none}
-use Rattle.segment_postings.proofs.core.CursorTurns.{moved-ok, opening-is, opened-is, advanced-is}
+use Rattle.segment_postings.proofs.Laws.CursorTurns.{moved-ok, opening-is, opened-is, advanced-is}
 use Rattle.segment_postings.specs.Called.{called, callsFrom, calls}
 use Rattle.segment_postings.proofs.Simulation.CallsSimulate.{callsFrom-none, callsFrom-more, calls-is, moved-refused}
 use Rattle.segment_postings.proofs.Admission.WalkReads.{reading-whole}

@@ -29,7 +29,7 @@ use Rattle.segment_postings.specs.declared.SegmentPostings.{SegmentPosti
 use Rattle.segment_postings.specs.Cursor.{position, answerAt, moved, opened, stepping, advanced, docAt, freqAt, seeking, sought}
 use Rattle.segment_postings.specs.Called.{shown, called, callsFrom, calls, cursorAfter}
 use Rattle.segment_postings.specs.Called.{numbers, allNumbers, shownNumbers, positionsFrom, positions, modelNumbers}
-use Rattle.segment_postings.proofs.core.CursorTurns.{moved-ok, opened-is}
+use Rattle.segment_postings.proofs.Laws.CursorTurns.{moved-ok, opened-is}
 use Rattle.segment_postings.proofs.Simulation.HoldsBlock.{doc-holds, freq-holds}
 use Rattle.segment_postings.proofs.Simulation.StepSimulates.{Agrees, docs-count, entries-read, opening-agrees, answer-agrees, stepping-agrees}
 use Rattle.segment_postings.proofs.Simulation.SeekSimulates.{seeking-end, seeking-refused, seeking-agrees}

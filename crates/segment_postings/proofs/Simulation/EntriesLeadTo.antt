@@ -28,7 +28,7 @@ use Rattle.format.proofs.BlocksAt.{skipsAt, bytesBefore, full-at, tail-at}
 use Rattle.format.proofs.Sound.{Sound, sound-blocks}
 use Rattle.segment_postings.specs.declared.Found.{Found}
 use Rattle.segment_postings.specs.Cursor.{tailInfo, findBlock, loadBlock}
-use Rattle.segment_postings.proofs.core.CursorTurns.{findBlock-zero, findBlock-suc, loadBlock-is}
+use Rattle.segment_postings.proofs.Laws.CursorTurns.{findBlock-zero, findBlock-suc, loadBlock-is}
 
 -- where block b begins in the image
 abbrev pub startOf : Layout → List ℕ → ℕ → ℕ

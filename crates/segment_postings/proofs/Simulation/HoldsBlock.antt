@@ -26,8 +26,8 @@ use Rattle.segment_postings.specs.declared.SegmentPostings.{SegmentPosti
 use Rattle.segment_postings.specs.Cursor.{padded, holding, landing, position, inBounds, answerAt, opening, atPlace}
 use Rattle.segment_postings.specs.Cursor.{leastAfter, leaving, stepping, valueAt, docAt, freqAt}
 use Rattle.segment_postings.proofs.Simulation.EntriesLeadTo.{startOf, last-below, start-inside, Lands, search-lands}
-use Rattle.segment_postings.proofs.core.LandingParts.{starts-behind}
-use Rattle.segment_postings.proofs.core.CursorTurns.{landing-is, answerAt-is, opening-is, leaving-is, stepping-is}
+use Rattle.segment_postings.proofs.Laws.LandingParts.{starts-behind}
+use Rattle.segment_postings.proofs.Laws.CursorTurns.{landing-is, answerAt-is, opening-is, leaving-is, stepping-is}
 
 pub record Holds {t : Term} {bs : List ℕ} (s : Sound t bs) (c : SegmentPostings) : Type 0 where
   pub docs-are : c .docs ≡ padded TERMINATED (blockAt (reading t bs .blocks) (c .block) .docs)

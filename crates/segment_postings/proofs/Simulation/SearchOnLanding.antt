@@ -28,7 +28,7 @@ use Rattle.segment_postings.specs.declared.SegmentPostings.{SegmentPosti
 use Rattle.segment_postings.specs.Cursor.{findBlock, loadBlock, padded, holding, landing, leaving, placeOf}
 use Rattle.segment_postings.proofs.find.FoundBlock.{entryOf, find-tail, find-entry}
 use Rattle.segment_postings.proofs.Simulation.PaddedDocs.{full-last, tail-last, padded-length, padded-rises, padded-search}
-use Rattle.segment_postings.proofs.core.CursorTurns.{loadBlock-is, landing-is, leaving-is}
+use Rattle.segment_postings.proofs.Laws.CursorTurns.{loadBlock-is, landing-is, leaving-is}
 
 -- ---- the block that is found
 

@@ -24,7 +24,7 @@ use Rattle.format.proofs.Sound.{Sound, sound-blocks}
 use Rattle.format.proofs.Visited.{seek-goes}
 use Rattle.segment_postings.specs.declared.SegmentPostings.{SegmentPostings}
 use Rattle.segment_postings.specs.Cursor.{position, atPlace, placeOf, within, behind, seeking}
-use Rattle.segment_postings.proofs.core.CursorTurns.{behind-is, seeking-is}
+use Rattle.segment_postings.proofs.Laws.CursorTurns.{behind-is, seeking-is}
 use Rattle.segment_postings.proofs.Simulation.HoldsBlock.{Holds, MovesTo, holds-inBounds}
 use Rattle.segment_postings.proofs.Simulation.PlaceInList.{place-below, place-reaches, place-inside}
 use Rattle.segment_postings.proofs.Simulation.SeekPosition.{seek-stays, seek-onward, earlier, within-onward, within-moves, left-full, leaving-moves}

@@ -18,8 +18,8 @@ use Rattle.segment_postings.specs.declared.Reached.the-variants as reach
 use Rattle.segment_postings.specs.declared.SegmentPostings.{SegmentPostings}
 use Rattle.segment_postings.specs.Cursor.{inBounds, position, opening, atPlace, leaving, placeOf, within, behind, seeking, ranking}
 use Rattle.segment_postings.specs.Calls.{orBefore, cursorOf, heldOf, reached, Reaches}
-use Rattle.segment_postings.proofs.core.LandingParts.{reaches-as, reached-at, reached-nowhere}
-use Rattle.segment_postings.proofs.core.CursorTurns.{behind-is, seeking-is}
+use Rattle.segment_postings.proofs.Laws.LandingParts.{reaches-as, reached-at, reached-nowhere}
+use Rattle.segment_postings.proofs.Laws.CursorTurns.{behind-is, seeking-is}
 
 -- ---- what follows a call on lent arrays
 

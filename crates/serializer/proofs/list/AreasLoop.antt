@@ -20,7 +20,7 @@ use Rattle.serializer.specs.Calls.{BlockWritten, blockFits}
 use Rattle.serializer.specs.Whole.{fullBlocks, blocksFit, BlocksPut}
 use Rattle.serializer.specs.Writer.{entryOf, blockOf, leastAfter, blocksOf}
 use Rattle.serializer.proofs.list.Blocks.{blocksOf-zero, blocks-next, blocks-fewer}
-use Rattle.serializer.proofs.list.BlockPlaces.{least-next, blocks-room}
+use Rattle.serializer.proofs.Laws.BlockPlaces.{least-next, blocks-room}
 
 -- bytes go behind those at an area's front
 module _ (a b area : List ℕ) (h : length (a ++ b) ≤ length area) where

@@ -19,7 +19,7 @@ use Rattle.serializer.specs.declared.Answer.the-variants.{Bytes, Refused
 use Rattle.serializer.specs.Calls.{answered, ImagePut, Listed}
 use Rattle.serializer.specs.Whole.{ListSized, PartsThere, fullBlocks, imageFrom, blocksFit, listFits, BlocksPut, ListPut}
 use Rattle.serializer.specs.Writer.{after, listing}
-use Rattle.serializer.proofs.list.BlockPlaces.{image-from, front-fits, blocks-room, listFits-is, put-front}
+use Rattle.serializer.proofs.Laws.BlockPlaces.{image-from, front-fits, blocks-room, listFits-is, put-front}
 
 -- ---- an outcome that hangs on one question
 

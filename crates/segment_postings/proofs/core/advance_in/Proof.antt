@@ -7,7 +7,7 @@ use borrow.Author.Tests.{not-true, not-false}
 use Rattle.segment_postings.specs.Cursor.{inBounds, atPlace}
 use Rattle.segment_postings.specs.Calls.{cursorOf}
 use Rattle.segment_postings.proofs.core.Question16.{bounded}
-use Rattle.segment_postings.proofs.core.LandingParts.{reaches-as, none-reached, held-reached, stepping-broken, stepping-ended, stepping-within, leaves-full, stepping-leaves}
+use Rattle.segment_postings.proofs.Laws.LandingParts.{reaches-as, none-reached, held-reached, stepping-broken, stepping-ended, stepping-within, leaves-full, stepping-leaves}
 use borrow.Author.Needs.{needs}
 use Rattle.segment_postings.proofs.core.advance_in.Statement.{statement}
 use Rattle.segment_postings.proofs.core.advance_in.Tie as tie

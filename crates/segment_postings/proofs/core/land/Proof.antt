@@ -2,7 +2,7 @@
 -- Assumes nothing.
 use mathlib.Core.Path.{sym, _∙_}
 use Rattle.segment_postings.proofs.find.FoundBlock.{found-there}
-use Rattle.segment_postings.proofs.core.LandingParts.{searched-to, searched-refused, reaches-as, none-reached, landing-found, landing-refused}
+use Rattle.segment_postings.proofs.Laws.LandingParts.{searched-to, searched-refused, reaches-as, none-reached, landing-found, landing-refused}
 use borrow.Author.Needs.{needs}
 use Rattle.segment_postings.proofs.core.land.Statement.{statement}
 use Rattle.segment_postings.proofs.core.land.Tie as tie

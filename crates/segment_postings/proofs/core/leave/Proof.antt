@@ -9,7 +9,7 @@ use Rattle.format.specs.Basics.{ok}
 use Rattle.format.specs.Layout.{layout}
 use Rattle.segment_postings.specs.Calls.{cursorOf}
 use Rattle.segment_postings.proofs.core.Question16.{Bounded, bounded}
-use Rattle.segment_postings.proofs.core.LandingParts.{laid-at, laid-refused, reaches-as, none-reached, leaving-laid, leaving-early, leaving-refused, leaves-from}
+use Rattle.segment_postings.proofs.Laws.LandingParts.{laid-at, laid-refused, reaches-as, none-reached, leaving-laid, leaving-early, leaving-refused, leaves-from}
 use borrow.Author.Needs.{needs}
 use Rattle.segment_postings.proofs.core.leave.Statement.{statement}
 use Rattle.segment_postings.proofs.core.leave.Tie as tie

@@ -2,7 +2,7 @@
 -- Assumes nothing.
 use mathlib.Core.Path.{sym, _∙_}
 use native.Mathlib.Omega.{arith}
-use Rattle.segment_postings.proofs.core.LandingParts.{laid-at, laid-refused, reaches-as, none-reached, opening-laid, opening-refused, opens-from}
+use Rattle.segment_postings.proofs.Laws.LandingParts.{laid-at, laid-refused, reaches-as, none-reached, opening-laid, opening-refused, opens-from}
 use borrow.Author.Needs.{needs}
 use Rattle.segment_postings.proofs.core.open_in.Statement.{statement}
 use Rattle.segment_postings.proofs.core.open_in.Tie as tie

@@ -3,7 +3,7 @@
 use mathlib.Core.Path.{sym}
 use native.Mathlib.Omega.{arith}
 use Rattle.format.specs.Layout.{fullBlocks}
-use Rattle.segment_postings.proofs.core.LandingParts.{starts-tail, starts-entry}
+use Rattle.segment_postings.proofs.Laws.LandingParts.{starts-tail, starts-entry}
 use borrow.Author.Needs.{needs}
 use Rattle.segment_postings.proofs.core.starts_inside.Statement.{statement}
 use Rattle.segment_postings.proofs.core.starts_inside.Tie as tie

@@ -1,7 +1,7 @@
 -- `segment_postings::core::unpack_found` meets its contract: what `load_block` leaves in the arrays is the cursor's, and its answer
 -- with the numbers of the block found makes the cursor's numbers.
 -- Assumes nothing.
-use Rattle.segment_postings.proofs.core.LandingParts.{first, unpacked-there, unpacked-refused}
+use Rattle.segment_postings.proofs.Laws.LandingParts.{first, unpacked-there, unpacked-refused}
 use borrow.Author.Needs.{needs}
 use Rattle.segment_postings.proofs.core.unpack_found.Statement.{statement}
 use Rattle.segment_postings.proofs.core.unpack_found.Tie as tie

@@ -4,7 +4,7 @@ use mathlib.Core.Path.{sym, ap, _∙_}
 use Prim.Native.Nat.{ℕ}
 use Rattle.format.specs.Basics.{Outcome}
 use Rattle.segment_postings.specs.Calls.{valued}
-use Rattle.segment_postings.proofs.core.LandingParts.{laid-at, laid-refused}
+use Rattle.segment_postings.proofs.Laws.LandingParts.{laid-at, laid-refused}
 use Rattle.segment_postings.proofs.counts.TotalInBlocks.{total-too-far, total-within, total-unlaid}
 use borrow.Author.Needs.{needs}
 use Rattle.segment_postings.proofs.counts.total.Statement.{statement}

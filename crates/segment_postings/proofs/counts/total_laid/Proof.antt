@@ -9,7 +9,7 @@ use Rattle.format.specs.Basics.{Outcome}
 use Rattle.format.specs.Layout.{fullBlocks}
 use Rattle.segment_postings.specs.Calls.{valued}
 use Rattle.segment_postings.proofs.Admission.LandingReads.{BlockHeld, block-held}
-use Rattle.segment_postings.proofs.core.LandingParts.{reached-at, reached-nowhere}
+use Rattle.segment_postings.proofs.Laws.LandingParts.{reached-at, reached-nowhere}
 use Rattle.segment_postings.proofs.counts.TotalLoop.{Walked, walked-none, walk-refused, walk-stops, walk-ends, walk-goes-on}
 use borrow.Author.Needs.{needs}
 use Rattle.segment_postings.proofs.counts.total_laid.Statement.{statement}

@@ -6,8 +6,8 @@ use Prim.Native.Nat.{_/_, _^_, _≤_, _<_}
 use native.Mathlib.Omega.{arith}
 use borrow.Author.Needs.{needs}
 use Rattle.segment_postings.specs.Calls.{cursorOf, valued}
-use Rattle.segment_postings.proofs.core.LandingParts.{reached-at, reached-nowhere}
-use Rattle.segment_postings.proofs.core.ReachedBounds.{seeking-near}
+use Rattle.segment_postings.proofs.Laws.LandingParts.{reached-at, reached-nowhere}
+use Rattle.segment_postings.proofs.Laws.ReachedBounds.{seeking-near}
 use Rattle.segment_postings.proofs.seeks.SeekCases.{ranking-too-large, ranking-unopened, ranking-unsought, ranking-found}
 use Rattle.segment_postings.proofs.seeks.rank.Statement.{statement}
 use Rattle.segment_postings.proofs.seeks.rank.Tie as tie

@@ -5,8 +5,8 @@ use borrow.Author.Needs.{needs}
 use Rattle.segment_postings.specs.declared.SegmentPostings.{SegmentPostings}
 use Rattle.segment_postings.specs.Cursor.{seeking, sought}
 use Rattle.segment_postings.specs.Calls.{cursorOf}
-use Rattle.segment_postings.proofs.core.LandingParts.{reaches-as, reached-at, same-cursor, moved-at, moved-back}
-use Rattle.segment_postings.proofs.core.ReachedBounds.{seeking-near}
+use Rattle.segment_postings.proofs.Laws.LandingParts.{reaches-as, reached-at, same-cursor, moved-at, moved-back}
+use Rattle.segment_postings.proofs.Laws.ReachedBounds.{seeking-near}
 use Rattle.segment_postings.proofs.seeks.seek.Statement.{statement}
 use Rattle.segment_postings.proofs.seeks.seek.Tie as tie
 

@@ -5,7 +5,7 @@ use Prim.Native.Nat.{_/_, _<_}
 use native.Mathlib.Omega.{arith}
 use borrow.Author.Needs.{needs}
 use Rattle.segment_postings.specs.Calls.{cursorOf}
-use Rattle.segment_postings.proofs.core.LandingParts.{none-reached, reaches-as}
+use Rattle.segment_postings.proofs.Laws.LandingParts.{none-reached, reaches-as}
 use Rattle.segment_postings.proofs.seeks.SeekCases.{then-nowhere, then-placed, behind-tail, behind-full}
 use Rattle.segment_postings.proofs.seeks.seek_behind.Statement.{statement}
 use Rattle.segment_postings.proofs.seeks.seek_behind.Tie as tie

@@ -10,7 +10,7 @@ use lib.Dec.{eqb}
 use Rattle.segment_postings.specs.Cursor.{inBounds}
 use Rattle.segment_postings.specs.Calls.{cursorOf}
 use Rattle.segment_postings.proofs.core.Question16.{bounded}
-use Rattle.segment_postings.proofs.core.LandingParts.{reaches-as, none-reached, held-reached}
+use Rattle.segment_postings.proofs.Laws.LandingParts.{reaches-as, none-reached, held-reached}
 use Rattle.segment_postings.proofs.seeks.SeekCases.{seeking-broken, seeking-ended, seeking-too-large, seeking-stays, seeking-within, seeking-behind}
 use Rattle.segment_postings.proofs.seeks.seek_in.Statement.{statement}
 use Rattle.segment_postings.proofs.seeks.seek_in.Tie as tie

@@ -8,7 +8,7 @@ use borrow.Author.Needs.{needs}
 use Rattle.format.specs.Basics.{ok}
 use Rattle.segment_postings.specs.Cursor.{placeOf}
 use Rattle.segment_postings.specs.Calls.{cursorOf}
-use Rattle.segment_postings.proofs.core.LandingParts.{none-reached, held-reached}
+use Rattle.segment_postings.proofs.Laws.LandingParts.{none-reached, held-reached}
 use Rattle.segment_postings.proofs.seeks.SeekCases.{within-there, within-none}
 use Rattle.segment_postings.proofs.seeks.seek_within.Statement.{statement}
 use Rattle.segment_postings.proofs.seeks.seek_within.Tie as tie

@@ -5,8 +5,8 @@ use mathlib.Core.Path.{_≡_, sym, ap}
 use Rattle.segment_postings.specs.declared.SegmentPostings.{SegmentPostings}
 use Rattle.segment_postings.specs.Cursor.{stepping, advanced}
 use Rattle.segment_postings.specs.Calls.{cursorOf}
-use Rattle.segment_postings.proofs.core.LandingParts.{reaches-as, reached-at, same-cursor, moved-at, moved-back}
-use Rattle.segment_postings.proofs.core.ReachedBounds.{stepping-near}
+use Rattle.segment_postings.proofs.Laws.LandingParts.{reaches-as, reached-at, same-cursor, moved-at, moved-back}
+use Rattle.segment_postings.proofs.Laws.ReachedBounds.{stepping-near}
 use borrow.Author.Needs.{needs}
 use Rattle.segment_postings.proofs.segment_postings.advance.Statement.{statement}
 use Rattle.segment_postings.proofs.segment_postings.advance.Tie as tie

@@ -4,7 +4,7 @@ use mathlib.Core.Path.{sym}
 use native.Mathlib.Omega.{arith}
 use Rattle.segment_postings.specs.Cursor.{opened, blank}
 use Rattle.segment_postings.specs.Calls.{cursorOf}
-use Rattle.segment_postings.proofs.core.LandingParts.{reached-at, moved-at, moved-nowhere, opening-first}
+use Rattle.segment_postings.proofs.Laws.LandingParts.{reached-at, moved-at, moved-nowhere, opening-first}
 use borrow.Author.Needs.{needs}
 use Rattle.segment_postings.proofs.segment_postings.open.Statement.{statement}
 use Rattle.segment_postings.proofs.segment_postings.open.Tie as tie

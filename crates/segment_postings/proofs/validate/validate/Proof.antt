@@ -4,7 +4,7 @@ use mathlib.Core.Path.{sym, _∙_}
 use borrow.Author.Needs.{needs}
 use Rattle.format.specs.Reading.{nothing, readAll}
 use Rattle.format.proofs.Opened.{reading-is, soundness-is}
-use Rattle.segment_postings.proofs.core.LandingParts.{laid-at, laid-refused}
+use Rattle.segment_postings.proofs.Laws.LandingParts.{laid-at, laid-refused}
 use Rattle.segment_postings.proofs.validate.validate.Statement.{statement}
 use Rattle.segment_postings.proofs.validate.validate.Tie as tie
 

@@ -29,7 +29,7 @@ use Rattle.segment_postings.specs.declared.load.Taken.{Taken}
 use Rattle.segment_postings.specs.Calls.{FindsFrom, FoundThere}
 use Rattle.segment_postings.specs.Cursor.{findBlock}
 use Rattle.segment_postings.specs.Taken.{endsOn, takenFreqs, endsBefore, askedDocs, askedFreqs, ValuesTaken}
-use Rattle.segment_postings.proofs.core.LandingParts.{searched-to, searched-refused}
+use Rattle.segment_postings.proofs.Laws.LandingParts.{searched-to, searched-refused}
 use Rattle.segment_postings.proofs.layout.SplitParts.{laid-out}
 use Rattle.segment_postings.proofs.find.FoundBlock.{found-there}
 use Rattle.segment_postings.proofs.validate.PlaceByPlace.{Ordered, ordered-none, ordered-next, ordered-never, ordered-all, ordered-ends, ends-full}

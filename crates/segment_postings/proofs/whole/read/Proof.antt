@@ -8,9 +8,9 @@ use Rattle.format.specs.Basics.{ok}
 use Rattle.format.specs.Layout.{layout}
 use Rattle.format.specs.Reading.{soundness}
 use Rattle.segment_postings.specs.ReadWhole.{Walks}
-use Rattle.segment_postings.proofs.core.LandingParts.{laid-at, laid-refused}
-use Rattle.segment_postings.proofs.whole.ReadQuestions.{docs-short, freqs-short, unsound, unlaid, whole-walks, whole-is}
-use Rattle.segment_postings.proofs.whole.ReadQuestions.{whole-refused, whole-written}
+use Rattle.segment_postings.proofs.Laws.LandingParts.{laid-at, laid-refused}
+use Rattle.segment_postings.proofs.Laws.ReadQuestions.{docs-short, freqs-short, unsound, unlaid, whole-walks, whole-is}
+use Rattle.segment_postings.proofs.Laws.ReadQuestions.{whole-refused, whole-written}
 use Rattle.segment_postings.proofs.whole.read.Statement.{statement}
 use Rattle.segment_postings.proofs.whole.read.Tie as tie
 

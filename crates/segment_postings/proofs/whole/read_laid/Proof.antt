@@ -7,7 +7,7 @@ use Prim.Native.Nat.{_+_, _-_, _^_, _<_}
 use native.Mathlib.Omega.{arith}
 use Rattle.format.specs.Layout.{fullBlocks}
 use Rattle.segment_postings.proofs.Admission.LandingReads.{BlockHeld, block-held}
-use Rattle.segment_postings.proofs.core.LandingParts.{reached-at, reached-nowhere}
+use Rattle.segment_postings.proofs.Laws.LandingParts.{reached-at, reached-nowhere}
 use Rattle.segment_postings.proofs.whole.ReadLoop.{Copied, copied-none, never-refused, docs-room, freqs-room}
 use Rattle.segment_postings.proofs.whole.ReadLoop.{docs-kept, freqs-kept, copy-goes-on, copy-ends}
 use borrow.Author.Needs.{needs}

@@ -3,7 +3,7 @@
 use mathlib.Core.Path.{sym, ap, _∙_}
 use lib.ListN.{length}
 use borrow.Author.Needs.{needs}
-use Rattle.serializer.proofs.image.ImagePieces.{kept, left-out}
+use Rattle.serializer.proofs.Laws.ImagePieces.{kept, left-out}
 use Rattle.serializer.proofs.image.freqs_size.Statement.{statement}
 use Rattle.serializer.proofs.image.freqs_size.Tie as tie
 

@@ -6,7 +6,7 @@ use lib.ListN.{length, length-append}
 use borrow.Author.Needs.{needs}
 use Rattle.format.specs.Vint.{vint}
 use Rattle.format.proofs.Vints.{vint-length-le}
-use Rattle.serializer.proofs.image.ImagePieces.{head-none, head-some}
+use Rattle.serializer.proofs.Laws.ImagePieces.{head-none, head-some}
 use Rattle.serializer.proofs.image.head_size.Statement.{statement}
 use Rattle.serializer.proofs.image.head_size.Tie as tie
 

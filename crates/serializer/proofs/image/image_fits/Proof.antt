@@ -4,7 +4,7 @@ use mathlib.Core.Path.{sym, ap, _∙_}
 use Prim.Native.Nat.{ℕ}
 use lib.Dec.{leb}
 use borrow.Author.Needs.{needs}
-use Rattle.serializer.proofs.image.ImagePieces.{image-length}
+use Rattle.serializer.proofs.Laws.ImagePieces.{image-length}
 use Rattle.serializer.proofs.image.image_fits.Statement.{statement}
 use Rattle.serializer.proofs.image.image_fits.Tie as tie
 

@@ -7,7 +7,7 @@ use native.Mathlib.Omega.{arith}
 use lib.Dec.{leb}
 use borrow.Author.Tests.{lt-leb}
 use borrow.Author.Needs.{needs}
-use Rattle.serializer.proofs.image.ImagePieces.{leb-same}
+use Rattle.serializer.proofs.Laws.ImagePieces.{leb-same}
 use Rattle.serializer.proofs.image.parts_fit.Statement.{statement}
 use Rattle.serializer.proofs.image.parts_fit.Tie as tie
 

@@ -5,7 +5,7 @@ use denote.Ref.{now}
 use borrow.Author.Needs.{needs}
 use Rattle.format.specs.SkipEntry.{hasFreq}
 use Rattle.format.specs.Vint.{vints}
-use Rattle.serializer.proofs.image.ImagePieces.{kept, left-out, put-none, put-next}
+use Rattle.serializer.proofs.Laws.ImagePieces.{kept, left-out, put-none, put-next}
 use Rattle.serializer.proofs.image.put_freqs.Statement.{statement}
 use Rattle.serializer.proofs.image.put_freqs.Tie as tie
 

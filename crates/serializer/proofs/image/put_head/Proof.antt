@@ -8,7 +8,7 @@ use lib.ListN.{length}
 use borrow.Author.Needs.{needs}
 use Rattle.format.specs.Vint.{vint}
 use Rattle.format.proofs.Area.{fits-front}
-use Rattle.serializer.proofs.image.ImagePieces.{head-none, head-some, put-none, put-next, put-both, room-behind}
+use Rattle.serializer.proofs.Laws.ImagePieces.{head-none, head-some, put-none, put-next, put-both, room-behind}
 use Rattle.serializer.proofs.image.put_head.Statement.{statement}
 use Rattle.serializer.proofs.image.put_head.Tie as tie
 

@@ -14,7 +14,7 @@ use borrow.Author.Needs.{needs}
 use Rattle.format.proofs.Area.{fits-front}
 use Rattle.serializer.specs.Calls.{imageWith}
 use Rattle.serializer.specs.Pieces.{BytesPut, headOf, tailWith}
-use Rattle.serializer.proofs.image.ImagePieces.{image-is, image-refused, image-put, put-next, put-both, room-behind}
+use Rattle.serializer.proofs.Laws.ImagePieces.{image-is, image-refused, image-put, put-next, put-both, room-behind}
 use Rattle.serializer.proofs.image.put_image.Statement.{statement}
 use Rattle.serializer.proofs.image.put_image.Tie as tie
 

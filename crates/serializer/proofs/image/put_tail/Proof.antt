@@ -11,7 +11,7 @@ use Rattle.format.specs.Vint.{vints}
 use Rattle.format.specs.Written.{onlyIf}
 use Rattle.format.proofs.Area.{fits-front}
 use Rattle.serializer.specs.Pieces.{BytesPut, tailWith}
-use Rattle.serializer.proofs.image.ImagePieces.{put-next, put-both, room-behind}
+use Rattle.serializer.proofs.Laws.ImagePieces.{put-next, put-both, room-behind}
 use Rattle.serializer.proofs.image.put_tail.Statement.{statement}
 use Rattle.serializer.proofs.image.put_tail.Tie as tie
 

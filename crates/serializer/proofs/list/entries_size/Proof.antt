@@ -5,7 +5,7 @@ use native.Mathlib.Omega.{arith}
 use denote.Ref.{now}
 use lib.ListN.{length}
 use borrow.Author.Needs.{needs}
-use Rattle.serializer.proofs.list.BlockPlaces.{entries-fit}
+use Rattle.serializer.proofs.Laws.BlockPlaces.{entries-fit}
 use Rattle.serializer.proofs.list.entries_size.Statement.{statement}
 use Rattle.serializer.proofs.list.entries_size.Tie as tie
 

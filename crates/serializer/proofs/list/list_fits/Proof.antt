@@ -5,7 +5,7 @@ use mathlib.Core.Path.{sym, _∙_}
 use native.Mathlib.Omega.{arith}
 use denote.Ref.{now}
 use lib.Seq.{length-take-le}
-use Rattle.serializer.proofs.list.BlockPlaces.{image-parts, entries-refused, blocks-refused, fits-image}
+use Rattle.serializer.proofs.Laws.BlockPlaces.{image-parts, entries-refused, blocks-refused, fits-image}
 use borrow.Author.Needs.{needs}
 use Rattle.serializer.proofs.list.list_fits.Statement.{statement}
 use Rattle.serializer.proofs.list.list_fits.Tie as tie

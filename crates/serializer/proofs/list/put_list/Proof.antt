@@ -4,7 +4,7 @@ use mathlib.Core.Path.{sym}
 use native.Mathlib.Omega.{arith}
 use denote.Ref.{now}
 use lib.Seq.{length-take-le}
-use Rattle.serializer.proofs.list.BlockPlaces.{image-parts}
+use Rattle.serializer.proofs.Laws.BlockPlaces.{image-parts}
 use borrow.Author.Needs.{needs}
 use Rattle.serializer.proofs.list.put_list.Statement.{statement}
 use Rattle.serializer.proofs.list.put_list.Tie as tie

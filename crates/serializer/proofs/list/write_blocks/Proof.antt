@@ -8,7 +8,7 @@ use borrow.Author.Needs.{needs}
 use denote.Ref.{now}
 use lib.ListN.{length}
 use Rattle.serializer.specs.declared.Placed.the-variants.{NoRoom}
-use Rattle.serializer.proofs.list.BlockPlaces.{block-rises, id-below}
+use Rattle.serializer.proofs.Laws.BlockPlaces.{block-rises, id-below}
 use Rattle.serializer.proofs.list.AreasLoop.{Written, written-none, written-next, written-all, not-refused, skips-kept, postings-kept}
 use Rattle.serializer.proofs.list.write_blocks.Statement.{statement}
 use Rattle.serializer.proofs.list.write_blocks.Tie as tie

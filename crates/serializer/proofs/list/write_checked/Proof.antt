@@ -6,7 +6,7 @@ use borrow.Author.Tests.{not-true, not-false}
 use denote.Ref.{now}
 use lib.ListN.{length}
 use Rattle.serializer.specs.Whole.{ListSized, listFits}
-use Rattle.serializer.proofs.list.BlockPlaces.{full-skips}
+use Rattle.serializer.proofs.Laws.BlockPlaces.{full-skips}
 use Rattle.serializer.proofs.list.ListCases.{put-refused, blocks-fit, parts-there, put-all}
 use borrow.Author.Needs.{needs}
 use Rattle.serializer.proofs.list.write_checked.Statement.{statement}

@@ -24,8 +24,8 @@ use Rattle.format.proofs.LooksAt.{same-fewer, same-behind, same-full, same-layo
 use Rattle.segment_postings.specs.declared.Found.{Found}
 use Rattle.segment_postings.specs.declared.SegmentPostings.{SegmentPostings}
 use Rattle.segment_postings.specs.Cursor.{findBlock, loadBlock, landing, inBounds, leastAfter, opened, leaving, advanced, sought}
-use Rattle.segment_postings.proofs.core.CursorTurns.{findBlock-zero, findBlock-suc, loadBlock-is, landing-is, opening-is, opened-is}
-use Rattle.segment_postings.proofs.core.CursorTurns.{leaving-is, stepping-is, advanced-is, behind-is, seeking-is}
+use Rattle.segment_postings.proofs.Laws.CursorTurns.{findBlock-zero, findBlock-suc, loadBlock-is, landing-is, opening-is, opened-is}
+use Rattle.segment_postings.proofs.Laws.CursorTurns.{leaving-is, stepping-is, advanced-is, behind-is, seeking-is}
 
 -- two images of one length that are the same before the posting bytes: skip length and entries
 pub record SameFront (l : Layout) (bs bs′ : List ℕ) : Type 0 where

@@ -25,10 +25,10 @@ use Rattle.format.proofs.Sound.{whole-count}
 use Rattle.format.proofs.SoundBlock.{SoundBlock, entryBlock-read, tailBlock-sound}
 use Rattle.format.proofs.Values.{countable-cons}
 use Rattle.segment_postings.specs.Cursor.{position, ranking}
-use Rattle.segment_postings.proofs.core.ReachedBounds.{seeking-near}
+use Rattle.segment_postings.proofs.Laws.ReachedBounds.{seeking-near}
 use Rattle.segment_postings.proofs.seeks.SeekCases.{ranking-is}
 use Rattle.segment_postings.proofs.counts.TotalInBlocks.{sum-append, totalIn-is, total-too-far, total-within}
-use Rattle.segment_postings.proofs.core.CursorTurns.{opening-is}
+use Rattle.segment_postings.proofs.Laws.CursorTurns.{opening-is}
 
 pub count-most : (t : Term) (bs : List ℕ) {l : Layout} → layout t bs ≡ ok l → t .count ≤ TERMINATED
 count-most t bs e =

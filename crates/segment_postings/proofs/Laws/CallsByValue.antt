@@ -18,7 +18,7 @@ use Rattle.segment_postings.specs.declared.Reached.the-variants as reach
 use Rattle.segment_postings.specs.declared.SegmentPostings.{SegmentPostings}
 use Rattle.segment_postings.specs.Cursor.{answerAt, moved, blank, opening, opened, stepping, advanced, seeking, sought}
 use Rattle.segment_postings.specs.Calls.{cursorOf, orBefore, Reaches}
-use Rattle.segment_postings.proofs.core.LandingParts.{reached-at, reached-nowhere, moved-at, moved-nowhere}
+use Rattle.segment_postings.proofs.Laws.LandingParts.{reached-at, reached-nowhere, moved-at, moved-nowhere}
 
 -- a call on lent arrays beside the call by value on the cursor `was`, which gives m
 pub record SameCall (t : Term) (was : SegmentPostings) (m : Moved) (docs freqs docs′ freqs′ : List ℕ) (r : Reached) : Type 0 where

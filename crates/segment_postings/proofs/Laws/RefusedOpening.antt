@@ -10,7 +10,7 @@ use Rattle.format.specs.Basics.{refused, ask}
 use Rattle.format.specs.Refusal.{stateBroken}
 use Rattle.segment_postings.specs.Cursor.{inBounds, blank, stepping, seeking, valueAt}
 use Rattle.segment_postings.proofs.core.Question16.{Bounded, out-of-bounds}
-use Rattle.segment_postings.proofs.core.CursorTurns.{stepping-is, seeking-is}
+use Rattle.segment_postings.proofs.Laws.CursorTurns.{stepping-is, seeking-is}
 
 module _ (bs : List ℕ) (t : Term) where
   at-none : Bounded t bs blank → 128 < 128

@@ -18,9 +18,9 @@ use Rattle.segment_postings.specs.declared.SegmentPostings.{SegmentPosti
 use Rattle.segment_postings.specs.Cursor.{position, atPlace, leaving, stepping, within, behind, seeking}
 use Rattle.segment_postings.proofs.core.Question16.{Bounded, bounded}
 use Rattle.segment_postings.proofs.Simulation.SearchOnLanding.{leaving-placed}
-use Rattle.segment_postings.proofs.core.LandingParts.{landing-first, leaves-full}
+use Rattle.segment_postings.proofs.Laws.LandingParts.{landing-first, leaves-full}
 use Rattle.segment_postings.proofs.seeks.SeekCases.{tested, within-is}
-use Rattle.segment_postings.proofs.core.CursorTurns.{leaving-is, stepping-is, behind-is, seeking-is}
+use Rattle.segment_postings.proofs.Laws.CursorTurns.{leaving-is, stepping-is, behind-is, seeking-is}
 
 abbrev pub Near : Term → SegmentPostings → Type 0
 Near t d = (d .place < 128) × (128 * d .block + d .place ≤ t .count)

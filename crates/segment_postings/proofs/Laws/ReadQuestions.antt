@@ -24,7 +24,7 @@ use Rattle.format.proofs.Sound.{sound-image, sound-blocks, whole-count}
 use Rattle.segment_postings.specs.declared.Value.the-variants as value-as
 use Rattle.segment_postings.specs.Calls.{orBefore, valued}
 use Rattle.segment_postings.specs.ReadWhole.{readWhole, WholeRead, Walks, Written}
-use Rattle.segment_postings.proofs.counts.BelowMark.{count-most}
+use Rattle.segment_postings.proofs.Laws.BelowMark.{count-most}
 
 -- ---- the requested mode of a sound image
 

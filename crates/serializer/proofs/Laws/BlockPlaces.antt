@@ -27,7 +27,7 @@ use Rattle.serializer.specs.Pieces.{headOf, tailWith}
 use Rattle.serializer.specs.Whole.{ListSized, fullBlocks, inBlocks, imageFrom, blocksFit, listFits}
 use Rattle.serializer.specs.Writer.{docValues, freqValues, blockOf, tailOf, leastAfter, blocksOf}
 use Rattle.serializer.proofs.list.Blocks.{blocksOf-zero, blocksOf-suc, leastAfter-last, parts-skips, image-blocks, blocks-next}
-use Rattle.serializer.proofs.image.ImagePieces.{head-none, head-some, image-is}
+use Rattle.serializer.proofs.Laws.ImagePieces.{head-none, head-some, image-is}
 use Rattle.serializer.proofs.block.BlockPlaced.{blockOf-length}
 use Rattle.serializer.proofs.document.TakeCases.{least-some}
 

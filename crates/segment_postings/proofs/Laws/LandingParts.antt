@@ -33,7 +33,7 @@ use Rattle.segment_postings.specs.Cursor.{findBlock, loadBlock, holding,
 use Rattle.segment_postings.specs.Calls.{laid, searched, counted, orBefore, cursorOf, heldOf, reached, loaded, FindsFrom, BlockLoaded, Reaches}
 use Rattle.segment_postings.proofs.core.Question16.{Bounded, bounded}
 use Rattle.segment_postings.proofs.layout.SplitParts.{laid-out}
-use Rattle.segment_postings.proofs.core.CursorTurns.{landing-is, opening-is}
+use Rattle.segment_postings.proofs.Laws.CursorTurns.{landing-is, opening-is}
 
 -- ---- what an answer tells of its outcome
 

@@ -1,0 +1,3 @@
+pub mod BlockPlaces
+pub mod ImagePieces
+pub mod WholeList
