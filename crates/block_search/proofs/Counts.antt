@@ -15,9 +15,7 @@ use lib.Dec.{ltb}
 use lib.ListN.{length, getD}
 use Rattle.format.specs.Basics.{choose}
 use Rattle.format.specs.Counts.{countBelow}
-
-abbrev pub NeverFalls : List ℕ → Type 0
-NeverFalls xs = (i : ℕ) → i + 1 < length xs → getD xs i 0 ≤ getD xs (i + 1) 0
+use Rattle.block_search.specs.Search.{NeverFalls}
 
 never-falls-tail : (x : ℕ) (xs : List ℕ) → NeverFalls (x ∷ xs) → NeverFalls xs
 never-falls-tail x xs never i h = rw add-one (rw (add-one (suc i)) at (never (suc i) (omega arith)))

@@ -1,4 +1,4 @@
--- The search answers at most 128 on any array, and `countBelow` on one that never falls and whose last element reaches the
+-- The search answers `countBelow`, which is then below 128, on an array that never falls and whose last element reaches the
 -- target. A pivot lies below the target exactly where its index is below `countBelow` (Counts.antt). So the number of pivots
 -- below the target is the quotient of `countBelow`, less the base, by the step, capped at the number of pivots: each reduction
 -- leaves the segment that `countBelow` is in, of 16 places, then of 2, then of 1.
@@ -11,13 +11,14 @@ use Prim.Native.Nat.{ℕ, zero, suc, _+_, _-_, _*_, _/_, min, _≤_, _<_}
 use native.Mathlib.Nat.{le-div-iff-mul-le, div-lt-iff-lt-mul}
 use native.Mathlib.Numerals.{add-one}
 use native.Mathlib.Omega.{arith, by-contra}
-use borrow.Author.Tests.{ltb-true, ltb-false, lt-ltb, le-ltb}
-use lib.Dec.{ltb}
-use lib.ListN.{length, getD}
+use borrow.Author.Tests.{ltb-true, ltb-false, lt-ltb, le-ltb, leb-true, leb-false}
+use lib.Dec.{ltb, leb}
+use lib.ListN.{length, getD, List·getD-eq-default}
 use mir.Val.{boolByte}
 use Rattle.format.specs.Counts.{countBelow}
-use Rattle.block_search.specs.Search.{pivotsBelow, searchBlock}
-use Rattle.block_search.proofs.Counts.{NeverFalls, below-iff}
+use Rattle.format.proofs.Below.{count-below}
+use Rattle.block_search.specs.Search.{pivotsBelow, searchBlock, NeverFalls}
+use Rattle.block_search.proofs.Counts.{below-iff}
 
 boolByte-le : (b : Bool) → boolByte b ≤ 1
 boolByte-le true = omega arith
@@ -67,16 +68,34 @@ pivots-quotient arr target never base step pos (suc n) fits =
     )
     (min-div-suc (countBelow target arr) base step n pos)
 
-pub search-is-count : (arr : List ℕ) (target : ℕ) → length arr ≡ 128 →
-    ((i : ℕ) → i + 1 < 128 → getD arr i 0 ≤ getD arr (i + 1) 0) → target ≤ getD arr 127 0 →
+-- nothing lies below 0, which is all that the last of fewer than 128 elements, read as 0, reaches
+none-below : (arr : List ℕ) (base step n : ℕ) → pivotsBelow arr 0 base step n ≡ 0
+unfolding pivotsBelow
+none-below arr base step zero = refl
+none-below arr base step (suc n) = rw (none-below arr base step n, le-ltb (getD arr (base + suc n * step - 1) 0) 0 (omega arith))
+
+search-short : (arr : List ℕ) → (searchBlock arr 0 ≡ countBelow 0 arr) × (searchBlock arr 0 < 128)
+unfolding searchBlock
+search-short arr =
+    let none : countBelow 0 arr ≤ 0 = by-contra (countBelow 0 arr) 0 (λ h. omega (arith, count-below 0 arr 0 0 h)) in
+    simp none-below (omega arith)
+
+pub search-is-count : (arr : List ℕ) (target : ℕ) → NeverFalls arr → target ≤ getD arr 127 0 →
     (searchBlock arr target ≡ countBelow target arr) × (searchBlock arr target < 128)
 unfolding searchBlock
-search-is-count arr target len rises reaches =
-    let n : ℕ = countBelow target arr in
-    let never : NeverFalls arr = λ i h. rises i (omega arith) in
-    let short : n ≤ 127 = by-contra n 127 (λ h. omega (arith, below-iff target arr never 127 (omega arith) .1 h)) in
-    let b₁ : ℕ = pivotsBelow arr target 0 16 7 * 16 in
-    let b₂ : ℕ = b₁ + pivotsBelow arr target b₁ 2 7 * 2 in
-    let in₁ : (b₁ ≤ n) × (n < b₁ + 16) = omega (arith, pivots-quotient arr target never 0 16 (omega arith) 7 (omega arith)) in
-    let in₂ : (b₂ ≤ n) × (n < b₂ + 2) = omega (arith, pivots-quotient arr target never b₁ 2 (omega arith) 7 (omega arith)) in
-    omega (arith, pivots-quotient arr target never b₂ 1 (omega arith) 2 (omega arith))
+search-is-count arr target never reaches = by-length (leb 128 (length arr)) refl
+  where
+    by-length : (t : Bool) → leb 128 (length arr) ≡ t → (searchBlock arr target ≡ countBelow target arr) × (searchBlock arr target < 128)
+    by-length true e =
+        let full : 128 ≤ length arr = leb-true 128 (length arr) e in
+        let n : ℕ = countBelow target arr in
+        let short : n ≤ 127 = by-contra n 127 (λ h. omega (arith, below-iff target arr never 127 (omega arith) .1 h)) in
+        let b₁ : ℕ = pivotsBelow arr target 0 16 7 * 16 in
+        let b₂ : ℕ = b₁ + pivotsBelow arr target b₁ 2 7 * 2 in
+        let in₁ : (b₁ ≤ n) × (n < b₁ + 16) = omega (arith, pivots-quotient arr target never 0 16 (omega arith) 7 (omega arith)) in
+        let in₂ : (b₂ ≤ n) × (n < b₂ + 2) = omega (arith, pivots-quotient arr target never b₁ 2 (omega arith) 7 (omega arith)) in
+        omega (arith, pivots-quotient arr target never b₂ 1 (omega arith) 2 (omega arith))
+    by-length false e =
+        let past : getD arr 127 0 ≡ 0 = List·getD-eq-default arr 0 (omega (arith, leb-false 128 (length arr) e)) in
+        let least : target ≡ 0 = omega arith in
+        rw least (search-short arr)

@@ -2,7 +2,7 @@
 
 ghost use mathlib.Core.Path.{_≡_};
 ghost use Prim.Native.Nat.{_+_, _*_, _≤_, _<_};
-ghost use Rattle.block_search.specs.Search.{pivotsBelow, searchBlock};
+ghost use Rattle.block_search.specs.Search.{pivotsBelow, searchBlock, CountsSmaller};
 
 // Of n segments of step elements each, from base on: how many end on an element below the target. A pivot is such an end.
 // Branchless; unrolled where n is a constant.
@@ -21,6 +21,7 @@ fn pivots_below(arr: &[u32; 128], target: u32, base: usize, step: usize, n: usiz
 // An 8-ary search: 128 -> 16 -> 2 by seven pivots each, then a scan of the two elements left, which are pivots at step 1.
 pub fn search_block(arr: &[u32; 128], target: u32) -> usize
     ensures { λ r. ⌜ r ≡ searchBlock (now (arr .entry)) target ⌝ }
+    ensures { λ r. ⌜ CountsSmaller (now (arr .entry)) target r ⌝ }
 {
     let mut base = pivots_below(arr, target, 0, 16, 7) * 16;
     base += pivots_below(arr, target, base, 2, 7) * 2;

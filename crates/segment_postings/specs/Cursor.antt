@@ -192,7 +192,8 @@ freqAt c bs t = valueAt (c .freqs) 0 c bs t
 
 -- ---- seeks
 
--- the place of the target in the held block: the first whose document is at least the target
+-- the place that the search of the held ids answers. Where they never fall and the last reaches the target it is the first whose id is at
+-- least the target; of other arrays, which no image gives, nothing is said but that it is `searchBlock`
 unfoldable pub placeOf : SegmentPostings → ℕ → ℕ
 unfolding searchBlock
 placeOf c target = searchBlock (c .docs) target

@@ -1,8 +1,11 @@
 -- `block_search::search_block` meets its contract: each count equals its definition and is at most its number of pivots, which
--- keeps what the next one reads within the array.
+-- keeps what the next one reads within the array. That the definition counts the smaller ids is the law `search-is-count`.
 -- Assumes nothing.
+use mathlib.Core.Path.{_≡_, _∙_}
+use Prim.Native.Nat.{_+_, _*_}
 use native.Mathlib.Omega.{arith}
 use Rattle.block_search.specs.Search.{searchBlock}
+use Rattle.block_search.proofs.Search.{search-is-count}
 use Rattle.block_search.proofs.search_block.Statement.{statement}
 use Rattle.block_search.proofs.search_block.Tie as tie
 
@@ -29,7 +32,11 @@ add-result c = omega arith
 
 returns : tie.Need-returns
 unfolding searchBlock
-returns c = cc
+returns c =
+    let a = c .before .before .before .args in
+    let is : c .before .before .pivots-below .result * 16 + c .before .pivots-below2 .result * 2 + c .pivots-below3 .result
+    ≡ searchBlock (a .arr .now) (a .target) = cc in
+    (is, λ never reaches. is ∙ search-is-count (a .arr .now) (a .target) never reaches .0)
 
 pub search-block-spec : {M : Type 1} → statement M
 search-block-spec =

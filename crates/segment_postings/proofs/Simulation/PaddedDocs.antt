@@ -75,7 +75,7 @@ module _ (least : ℕ) (ds : List ℕ) (r : rising least ds ≡ true) (few : len
   unfolding padded
   padded-search target most reached =
       let xs : List ℕ = padded TERMINATED ds in
-      let p = search-is-count xs target padded-length padded-rises reached in
+      let p = search-is-count xs target (λ i h. padded-rises i (omega (arith, padded-length))) reached in
       record {
         counts = p .0 ∙ count-filled target ds (128 - length ds) TERMINATED most;
         below = p .1;

@@ -41,7 +41,7 @@ returns-2 c =
     let h = c .before .before .before .before in
     let k = h .before .before in
     reaches-as (behind-full _ _ _ _ (full (k .before .before .before)))
-    (then-placed (k .leave .ensures) _ (h .landed .given .1) (c .before .search-block .ensures) (c .at-place .ensures _ _))
+    (then-placed (k .leave .ensures) _ (h .landed .given .1) (c .before .search-block .ensures .0) (c .at-place .ensures _ _))
 
 returns-3 : tie.Need-returns-3
 unfolding cursorOf

@@ -20,7 +20,7 @@ search-block-requires c κs = search needs
 place-is : (c : tie.After-search-block) (freqs : List ℕ) → let s = c .before in
     c .search-block .result ≡ placeOf (cursorOf (s .args .held) (s .args .docs .now) freqs) (s .args .target)
 unfolding placeOf cursorOf
-place-is c freqs = c .search-block .ensures
+place-is c freqs = c .search-block .ensures .0
 
 returns : tie.Need-returns
 unfolding cursorOf
