@@ -4,18 +4,20 @@
 use mathlib.Core.Path.{_≡_, refl, sym, ap, _∙_}
 use mathlib.Core.Bool.{and-false}
 use mathlib.Core.List.{List, [], _∷_, map}
-use Prim.Native.Nat.{ℕ, suc, _+_, _-_, _*_, _≤_, _<_}
+use Prim.Native.Nat.{ℕ, suc, _+_, _-_, _≤_, _<_}
 use native.Mathlib.Numerals.{add-one}
 use native.Mathlib.Omega.{arith}
-use borrow.Author.Tests.{eq-eqb, ne-eqb, le-leb, lt-leb}
+use borrow.Author.Tests.{le-leb, lt-leb}
 use lib.ListN.{length, drop, getD, set, length-map, length-set, length-drop}
 use lib.Seq.{drop-cons, drop-length}
 use Rattle.format.specs.declared.Term.{Term}
-use Rattle.format.specs.Basics.{Outcome, ok, refused, choose, putAt, TERMINATED}
+use Rattle.format.specs.Basics.{Outcome, ok, refused, choose, putAt}
 use Rattle.format.proofs.Area.{putAt-nil, putAt-cons}
+use Rattle.segment_postings.specs.declared.Answer.the-variants.{At, Refused}
 use Rattle.segment_postings.specs.declared.SegmentPostings.{SegmentPostings}
 use Rattle.segment_postings.specs.Calls.{orBefore}
-use Rattle.segment_postings.specs.Cursor.{position, answerAt, opening, seeking}
+use Rattle.segment_postings.specs.Cursor.{answering, opening, seeking}
+use Rattle.segment_postings.proofs.Laws.LandingParts.{answering-at, answerAt-at}
 use Rattle.bench.specs.Seeks.{thenSeeks, seeksFrom, seeks, servedIn, docOf, freqOf, docOn, freqOn, Served, Stored}
 
 -- no more are served than there are targets
@@ -32,15 +34,15 @@ served-most bs t c (target ∷ targets) = then-most (seeking c bs t target) _ (l
 
 -- ---- one answer
 
-module _ (t : Term) (c : SegmentPostings) (at : ℕ) (docs freqs : List ℕ) where
-  pub stored-end : 128 * c .block + c .place ≡ t .count → Stored t c at docs freqs (set docs at TERMINATED) (set freqs at 0)
-  unfolding docOn freqOn docOf freqOf answerAt position choose
-  stored-end e = record { docs-after = rw (eq-eqb _ _ e); freqs-after = rw (eq-eqb _ _ e) }
+-- at a place of a block there is one, and it is stored
+module _ (t : Term) (c : SegmentPostings) (below : c .place < 128) where
+  pub never-refused : {n : ℕ} → answering t c ≡ Refused n → ⊥
+  never-refused e = answerAt-at t c (sym (answering-at t c below) ∙ e)
 
-  pub stored-place : (128 * c .block + c .place ≡ t .count → ⊥)
-      → Stored t c at docs freqs (set docs at (getD (c .docs) (c .place) 0)) (set freqs at (getD (c .freqs) (c .place) 0))
-  unfolding docOn freqOn docOf freqOf answerAt position choose
-  stored-place e = record { docs-after = rw (ne-eqb _ _ e); freqs-after = rw (ne-eqb _ _ e) }
+  pub stored-answer : (at : ℕ) (docs freqs : List ℕ) {doc freq unpacked entries : ℕ} → answering t c ≡ At doc freq unpacked entries
+      → Stored t c at docs freqs (set docs at doc) (set freqs at freq)
+  unfolding docOn freqOn docOf freqOf
+  stored-answer at docs freqs e = let is = sym (answering-at t c below) ∙ e in record { docs-after = rw is; freqs-after = rw is }
 
 -- ---- a run
 

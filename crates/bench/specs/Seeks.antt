@@ -3,7 +3,7 @@
 use mathlib.Core.Bool.{_&&_ as and}
 use mathlib.Core.List.{List, [], _∷_, map}
 use mathlib.Core.Path.{_≡_}
-use Prim.Native.Nat.{ℕ, _+_, _*_, _≤_, _<_}
+use Prim.Native.Nat.{ℕ, _<_}
 use lib.Dec.{leb}
 use lib.ListN.{length, set}
 use Rattle.format.specs.declared.Term.{Term}
@@ -66,10 +66,9 @@ pub record Served (t : Term) (cs : List SegmentPostings) (docs freqs docs′ fre
 
 -- ---- one answer
 
--- a position at most the count in a block of 128, and a place for it in both slices
-pub record Room (t : Term) (h : Held) (docs-room freqs-room at : ℕ) : Type 0 where
+-- a place of a block, and a place for its answer in both slices
+pub record Room (h : Held) (docs-room freqs-room at : ℕ) : Type 0 where
   pub place-below : h .place < 128
-  pub position-most : 128 * h .block + h .place ≤ t .count
   pub docs-room-there : at < docs-room
   pub freqs-room-there : at < freqs-room
 

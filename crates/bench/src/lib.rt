@@ -1,10 +1,11 @@
 // For measuring: many seeks on one cursor whose block stays in two arrays, so that no call copies it.
 
-use format::COMPRESSION_BLOCK_SIZE;
 use format::TERMINATED;
 use format::Term;
+use segment_postings::Answer;
 use segment_postings::Held;
 use segment_postings::Reached;
+use segment_postings::answer_at;
 use segment_postings::open_in;
 use segment_postings::seek_in;
 ghost use Prim.Native.Nat.{_≤_};
@@ -22,18 +23,21 @@ fn put_answer(
     freqs: &mut [u32],
     at: usize,
 )
-    requires { ⌜ Room term held (length (now docs)) (length (now freqs)) at ⌝ }
+    requires { ⌜ Room held (length (now docs)) (length (now freqs)) at ⌝ }
     ensures { λ _. ⌜ Stored term (cursorOf held (now («block_docs» .entry)) (now («block_freqs» .entry))) at (now (docs .entry)) (now (freqs .entry))
         (now (docs .exit)) (now (freqs .exit)) ⌝ }
 {
-    if COMPRESSION_BLOCK_SIZE * held.block + held.place == term.count as usize {
-        docs[at] = TERMINATED;
-        freqs[at] = 0;
+    let Answer::At {
+        doc,
+        freq,
+        unpacked: _,
+        entries: _,
+    } = answer_at(held, term, block_docs, block_freqs)
+    else {
         return;
-    }
-    let place = held.place;
-    docs[at] = block_docs[place];
-    freqs[at] = block_freqs[place];
+    };
+    docs[at] = doc;
+    freqs[at] = freq;
 }
 
 // Opens a list and seeks the targets in order, up to the first refusal: how many were served.

@@ -53,7 +53,7 @@
 //     match advance_in(held, image, term, &mut docs, &mut freqs) { Reached::At(held) => .., Reached::Refused(why) => .. }
 //     match seek_in(held, image, term, 300, &mut docs, &mut freqs) { Reached::At(held) => .., Reached::Refused(why) => .. }
 //
-// The document is docs[held.place]; at the end, where the position 128 * held.block + held.place is the count, there is none.
+//     match answer_at(held, term, &docs, &freqs) { Answer::At { doc, freq, unpacked, entries } => .., Answer::Refused(why) => .. }
 //
 // COUNTS. From a fresh cursor; a target above 2147483647 is 10. They ask their questions of what they read alone, and so answer of images
 // too that aren't sound: `rank` unpacks the first block and the one that it lands on, `total` the blocks up to the target.
@@ -90,6 +90,7 @@ pub use segment_postings::advance;
 pub use segment_postings::advance_by_lending;
 pub use segment_postings::advance_in;
 pub use segment_postings::advance_mut;
+pub use segment_postings::answer_at;
 pub use segment_postings::doc;
 pub use segment_postings::layout::posting_bytes;
 pub use segment_postings::layout::skip_bytes;

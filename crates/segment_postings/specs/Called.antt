@@ -11,6 +11,8 @@ use Rattle.segment_postings.specs.declared.Answer.{Answer}
 use Rattle.segment_postings.specs.declared.Answer.the-variants.{At, Refused}
 use Rattle.segment_postings.specs.declared.Moved.{Moved}
 use Rattle.segment_postings.specs.declared.SegmentPostings.{SegmentPostings}
+use Rattle.segment_postings.specs.declared.Value.{Value}
+use Rattle.segment_postings.specs.declared.Value.the-variants as value-as
 use Rattle.segment_postings.specs.Cursor.{opened, advanced, sought}
 
 -- what the model says of an answer: document, frequency and blocks unpacked
@@ -47,6 +49,11 @@ cursorAfter bs t c (call ∷ cs) = cursorAfter bs t (called c bs t call .cursor)
 unfoldable pub numbers : Answer → List ℕ
 numbers (At doc freq unpacked entries) = 0 ∷ doc ∷ freq ∷ unpacked ∷ entries ∷ []
 numbers (Refused n) = n ∷ 0 ∷ 0 ∷ 0 ∷ 0 ∷ []
+
+-- the same of a number that was asked for: 0 and the number, or a refusal's number and 0
+unfoldable pub valueNumbers : Value → List ℕ
+valueNumbers (value-as.Is n) = 0 ∷ n ∷ []
+valueNumbers (value-as.Refused k) = k ∷ 0 ∷ []
 
 unfoldable pub allNumbers : List Answer → List ℕ
 unfolding numbers

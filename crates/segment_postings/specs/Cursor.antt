@@ -99,6 +99,11 @@ answerAt t c =
     (λ _. At TERMINATED 0 (c .unpacked) (c .entries))
     (λ _. At (getD (c .docs) (c .place) 0) (getD (c .freqs) (c .place) 0) (c .unpacked) (c .entries))
 
+-- .. as a call of its own answers it, of any numbers: 16 for a place that no block has
+unfoldable pub answering : Term → SegmentPostings → Answer
+unfolding choose answerAt
+answering t c = choose (ltb (c .place) 128) (λ _. answerAt t c) (λ _. Refused stateBroken)
+
 -- an outcome with its answer; a refused call leaves the cursor as it was
 unfoldable pub moved : Term → SegmentPostings → Outcome SegmentPostings → Moved
 unfolding answerAt

@@ -25,7 +25,7 @@ ghost use mathlib.Core.List.{List};
 ghost use Prim.Native.Nat.{ℕ, _+_, _*_, _/_, _<_, _^_};
 ghost use lib.Dec.{eqb};
 ghost use lib.ListN.{length};
-ghost use Rattle.segment_postings.specs.Cursor.{inBounds, answerAt, landing, opening, leastAfter, startsInside, leaving, stepping};
+ghost use Rattle.segment_postings.specs.Cursor.{inBounds, answering, landing, opening, leastAfter, startsInside, leaving, stepping};
 ghost use Rattle.segment_postings.specs.Calls.{cursorOf, FoundThere, FindsFrom, Reaches, loaded};
 
 // Question 16 of a cursor over an image of `size` bytes: it is asked of the numbers alone.
@@ -71,11 +71,13 @@ pub(crate) fn at_end(held: Held, term: Term) -> bool
     held.place == count % COMPRESSION_BLOCK_SIZE
 }
 
-// The document and the frequency at the position, at the end TERMINATED and 0.
-pub(crate) fn answer_at(held: Held, term: Term, docs: &[u32; 128], freqs: &[u32; 128]) -> Answer
-    requires { ⌜ held .place < 128 ⌝ }
-    ensures { λ r. ⌜ r ≡ answerAt term (cursorOf held (now (docs .entry)) (now (freqs .entry))) ⌝ }
+// The document and the frequency at the position, at the end TERMINATED and 0. A place that no block has is refused: 16.
+pub fn answer_at(held: Held, term: Term, docs: &[u32; 128], freqs: &[u32; 128]) -> Answer
+    ensures { λ r. ⌜ r ≡ answering term (cursorOf held (now (docs .entry)) (now (freqs .entry))) ⌝ }
 {
+    if COMPRESSION_BLOCK_SIZE <= held.place {
+        return Answer::Refused(STATE_BROKEN);
+    }
     if at_end(held, term) {
         return Answer::At {
             doc: TERMINATED,

@@ -16,6 +16,7 @@ pub mod validate;
 mod whole;
 
 pub use crate::core::advance_in;
+pub use crate::core::answer_at;
 pub use crate::core::open_in;
 pub use crate::counts::total;
 pub use crate::lending::advance_by_lending;

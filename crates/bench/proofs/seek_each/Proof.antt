@@ -66,7 +66,6 @@ put-answer-requires c κs =
     let near = seeking-near _ _ _ _ (reached-at (w .seek-in .ensures) (c .before .before .before .before .before .next .given .1)) in
     record {
       place-below = near .0;
-      position-most = near .1;
       docs-room-there = omega (arith, below w .0, start w .pre .0, head w .loop .inv .docs-long);
       freqs-room-there = omega (arith, below w .0, start w .pre .1, head w .loop .inv .freqs-long);
     }

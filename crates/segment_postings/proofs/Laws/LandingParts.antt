@@ -10,13 +10,15 @@ use native.Mathlib.Decide.{decLe}
 use native.Mathlib.Omega.{arith}
 use borrow.Author.Tests.{lt-ltb, le-ltb, le-leb, lt-leb, eqb-false}
 use lib.Dec.{eqb, leb}
+use lib.ListN.{getD}
 use Rattle.format.specs.declared.Layout.{Layout}
 use Rattle.format.specs.declared.Term.{Term}
-use Rattle.format.specs.Basics.{Outcome, ok, refused, andThen, ask, choose}
+use Rattle.format.specs.Basics.{Outcome, ok, refused, andThen, ask, choose, TERMINATED}
 use Rattle.format.specs.Refusal.{entryBroken, stateBroken}
 use Rattle.format.specs.SkipEntry.{blockSize}
 use Rattle.format.specs.Layout.{layout, fullBlocks, skipBytes}
 use Rattle.format.specs.Reading.{Block}
+use Rattle.format.proofs.Choice.{choose-elim}
 use Rattle.format.proofs.Outcome.{ok-same, andThen-ok}
 use Rattle.segment_postings.specs.declared.Found.{Found}
 use Rattle.segment_postings.specs.declared.Held.{Held}
@@ -29,7 +31,7 @@ use Rattle.segment_postings.specs.declared.Answer.{Answer}
 use Rattle.segment_postings.specs.declared.Answer.the-variants as answer-as
 use Rattle.segment_postings.specs.declared.Reached.{Reached}
 use Rattle.segment_postings.specs.declared.Reached.the-variants as reached-as
-use Rattle.segment_postings.specs.Cursor.{findBlock, loadBlock, holding, landing, position, inBounds, opening, atPlace, leastAfter, startsInside, leaving, stepping, answerAt, moved}
+use Rattle.segment_postings.specs.Cursor.{findBlock, loadBlock, holding, landing, position, inBounds, opening, atPlace, leastAfter, startsInside, leaving, stepping, answerAt, answering, moved}
 use Rattle.segment_postings.specs.Calls.{laid, searched, counted, orBefore, cursorOf, heldOf, reached, loaded, FindsFrom, BlockLoaded, Reaches}
 use Rattle.segment_postings.proofs.core.Question16.{Bounded, bounded}
 use Rattle.segment_postings.proofs.layout.SplitParts.{laid-out}
@@ -230,36 +232,46 @@ pub same-cursor : (c : SegmentPostings) {h : Held} → h ≡ heldOf c → cursor
 unfolding cursorOf heldOf
 same-cursor c e = rw e
 
+-- the answer at a place of a block
+pub answering-at : (t : Term) (c : SegmentPostings) → c .place < 128 → answering t c ≡ answerAt t c
+unfolding answering choose
+answering-at t c below = rw (lt-ltb _ _ below)
+
+pub answering-nowhere : (t : Term) (c : SegmentPostings) → 128 ≤ c .place → answering t c ≡ answer-as.Refused stateBroken
+unfolding answering choose
+answering-nowhere t c above = rw (le-ltb _ _ above)
+
+-- .. is no refusal
+pub answerAt-at : (t : Term) (c : SegmentPostings) {n : ℕ} → answerAt t c ≡ answer-as.Refused n → ⊥
+unfolding answerAt
+answerAt-at t c {n} =
+    choose-elim (λ (a : Answer). a ≡ answer-as.Refused n → ⊥) (eqb (position c) (t .count))
+    (λ _. answer-as.At TERMINATED 0 (c .unpacked) (c .entries))
+    (λ _. answer-as.At (getD (c .docs) (c .place) 0) (getD (c .freqs) (c .place) 0) (c .unpacked) (c .entries))
+    (λ _ k. let z : _≡_ {A = ℕ} 0 1 = cc in omega arith)
+    (λ _ k. let z : _≡_ {A = ℕ} 0 1 = cc in omega arith)
+
+module _ (t : Term) (c : SegmentPostings) (below : c .place < 128) where
+  pub answering-end : eqb (128 * c .block + c .place) (t .count) ≡ true → answering t c ≡ answer-as.At TERMINATED 0 (c .unpacked) (c .entries)
+  unfolding answerAt position choose
+  answering-end e = answering-at t c below ∙ rw e
+
+  pub answering-before : eqb (128 * c .block + c .place) (t .count) ≡ false
+      → answering t c ≡ answer-as.At (getD (c .docs) (c .place) 0) (getD (c .freqs) (c .place) 0) (c .unpacked) (c .entries)
+  unfolding answerAt position choose
+  answering-before e = answering-at t c below ∙ rw e
+
 -- an answer with its cursor
 pub moved-at : (t : Term) (before : SegmentPostings) {o : Outcome SegmentPostings} {a : Answer} {c m : SegmentPostings}
-    → a ≡ answerAt t c → m ≡ c → o ≡ ok c → record { answer = a; cursor = m } ≡ moved t before o
+    → c .place < 128 → a ≡ answering t c → m ≡ c → o ≡ ok c → record { answer = a; cursor = m } ≡ moved t before o
 unfolding moved
-moved-at t before answers same e = rw (e, answers, same)
+moved-at t before {c = c} below answers same e = rw (e, answers, answering-at t c below, same)
 
 pub moved-nowhere : (t : Term) (before : SegmentPostings) {o : Outcome SegmentPostings} {docs freqs docs′ freqs′ : List ℕ} {r : Reached} {n : ℕ}
     → Reaches o docs freqs docs′ freqs′ r → r ≡ reached-as.Refused n
     → moved t before o ≡ record { answer = answer-as.Refused n; cursor = before }
 unfolding moved
 moved-nowhere t before k e = rw (reached-nowhere k e)
-
--- .. and the cursor that was taken apart, put together again: the arrays are as they were
-pub moved-back : (t : Term) (before : SegmentPostings) {o : Outcome SegmentPostings} {docs′ freqs′ : List ℕ} {r : Reached} {n : ℕ} {h : Held} {m : SegmentPostings}
-    → Reaches o (before .docs) (before .freqs) docs′ freqs′ r → r ≡ reached-as.Refused n → h ≡ heldOf before → m ≡ cursorOf h docs′ freqs′
-    → record { answer = answer-as.Refused n; cursor = m } ≡ moved t before o
-unfolding moved orBefore
-moved-back t before {o} {docs′} {freqs′} {n = n} {m = m} k e s p = rw (nowhere, kept)
-  where
-    nowhere : o ≡ refused n
-    nowhere = reached-nowhere k e
-
-    docs-kept : docs′ ≡ before .docs
-    docs-kept = rw nowhere at (k .docs-after)
-
-    freqs-kept : freqs′ ≡ before .freqs
-    freqs-kept = rw nowhere at (k .freqs-after)
-
-    kept : m ≡ before
-    kept = p ∙ rw (docs-kept, freqs-kept) (same-cursor before s)
 
 -- a landing is at its block's first place
 pub landing-first : (t : Term) (bs : List ℕ) (l : Layout) (target b at least entries unpacked : ℕ) {c : SegmentPostings}
@@ -270,5 +282,5 @@ landing-first t bs l target b at least entries unpacked e =
     let loads = andThen-ok _ _ (found .2) in
     ap (λ (c : SegmentPostings). c .place) (sym (ok-same (loads .2)))
 
-pub opening-first : (bs : List ℕ) (t : Term) {c : SegmentPostings} → opening bs t ≡ ok c → c .place ≡ 0
-opening-first bs t e = landing-first _ _ _ _ _ _ _ _ _ (andThen-ok _ _ (sym (opening-is bs t) ∙ e) .2)
+pub opening-near : (bs : List ℕ) (t : Term) {c : SegmentPostings} → opening bs t ≡ ok c → c .place < 128
+opening-near bs t e = omega (arith, landing-first _ _ _ _ _ _ _ _ _ (andThen-ok _ _ (sym (opening-is bs t) ∙ e) .2))

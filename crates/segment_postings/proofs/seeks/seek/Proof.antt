@@ -1,12 +1,12 @@
 -- `segment_postings::seeks::seek` meets its contract: where the core came to, put together, is where the definition comes to.
 -- Assumes nothing.
-use mathlib.Core.Path.{_≡_, sym, ap}
+use mathlib.Core.Path.{_≡_, refl, ap, _∙_}
 use borrow.Author.Needs.{needs}
 use Rattle.segment_postings.specs.declared.SegmentPostings.{SegmentPostings}
-use Rattle.segment_postings.specs.Cursor.{seeking, sought}
+use Rattle.segment_postings.specs.Cursor.{sought}
 use Rattle.segment_postings.specs.Calls.{cursorOf}
-use Rattle.segment_postings.proofs.Laws.LandingParts.{reaches-as, reached-at, same-cursor, moved-at, moved-back}
-use Rattle.segment_postings.proofs.Laws.ReachedBounds.{seeking-near}
+use Rattle.segment_postings.proofs.Laws.LandingParts.{same-cursor}
+use Rattle.segment_postings.proofs.Laws.CallsByValue.{seek-in-calls, put-together, put-back}
 use Rattle.segment_postings.proofs.seeks.seek.Statement.{statement}
 use Rattle.segment_postings.proofs.seeks.seek.Tie as tie
 
@@ -19,23 +19,8 @@ seek-in-requires c κs = search needs
 enum-known-held : tie.Need-enum-known-held
 enum-known-held c = search needs
 
--- the cursor that was taken apart
-same : (c : tie.After-seek-in) →
-    let h = c .before .before .before in
-    let s = h .before .before .before .before in
-    seeking (s .args .cursor) (s .args .image .now) (s .args .term) (s .args .target)
-    ≡ seeking (cursorOf (h .held-of .result) (s .args .cursor .docs) (s .args .cursor .freqs)) (s .args .image .now) (s .args .term) (s .args .target)
-same c =
-    let h = c .before .before .before in
-    let s = h .before .before .before .before in
-    ap (λ (x : SegmentPostings). seeking x (s .args .image .now) (s .args .term) (s .args .target))
-    (sym (same-cursor (s .args .cursor) (h .held-of .ensures)))
-
 answer-at-requires : tie.Need-answer-at-requires
-unfolding cursorOf
-answer-at-requires c κs =
-    let h = c .before .before .before in
-    seeking-near _ _ _ _ (reached-at (h .before .before .seek-in .ensures) (h .held .given .1)) .0
+answer-at-requires c κs = search needs
 
 cursor-of-requires : tie.Need-cursor-of-requires
 cursor-of-requires c κs = search needs
@@ -46,20 +31,27 @@ enum-known-n c = search needs
 cursor-of-requires-2 : tie.Need-cursor-of-requires-2
 cursor-of-requires-2 c κs = search needs
 
+-- the cursor that was taken apart
+apart : (w : tie.After-seek-in) →
+    let h = w .before .before .before in
+    let s = h .before .before .before .before in
+    sought (cursorOf (h .held-of .result) (s .args .cursor .docs) (s .args .cursor .freqs)) (s .args .image .now) (s .args .term) (s .args .target)
+    ≡ sought (s .args .cursor) (s .args .image .now) (s .args .term) (s .args .target)
+apart w =
+    let h = w .before .before .before in
+    let s = h .before .before .before .before in
+    ap (λ (x : SegmentPostings). sought x (s .args .image .now) (s .args .term) (s .args .target)) (same-cursor (s .args .cursor) (h .held-of .ensures))
+
 returns : tie.Need-returns
-unfolding sought
 returns c =
     let h = c .before .before .before .before .before in
-    let s = h .before .before in
-    moved-at _ _ (c .before .answer-at .ensures) (c .cursor-of .ensures)
-    (reached-at (reaches-as (same s) (s .seek-in .ensures)) (h .held .given .1))
+    let w = h .before .before in
+    put-together (seek-in-calls _ _ _ _ (w .seek-in .ensures)) (h .held .given .1) (c .before .answer-at .ensures) (c .cursor-of .ensures) ∙ apart w
 
 returns-2 : tie.Need-returns-2
-unfolding sought
 returns-2 c =
-    let s = c .before .before .before .before in
-    moved-back _ _ (reaches-as (same s) (s .seek-in .ensures)) (c .before .before .n .given .1) (s .before .before .before .held-of .ensures)
-    (c .cursor-of2 .ensures)
+    let w = c .before .before .before .before in
+    put-back (seek-in-calls _ _ _ _ (w .seek-in .ensures)) _ (c .before .before .n .given .1) refl (c .cursor-of2 .ensures) ∙ apart w
 
 pub seek-spec : {M : Type 1} → statement M
 seek-spec =

@@ -1,13 +1,12 @@
--- `segment_postings::segment_postings::advance` meets its contract: where the core came to, put together, is where the definition
--- comes to.
+-- `segment_postings::segment_postings::advance` meets its contract: where the core came to, put together, is where the definition comes to.
 -- Assumes nothing.
-use mathlib.Core.Path.{_≡_, sym, ap}
-use Rattle.segment_postings.specs.declared.SegmentPostings.{SegmentPostings}
-use Rattle.segment_postings.specs.Cursor.{stepping, advanced}
-use Rattle.segment_postings.specs.Calls.{cursorOf}
-use Rattle.segment_postings.proofs.Laws.LandingParts.{reaches-as, reached-at, same-cursor, moved-at, moved-back}
-use Rattle.segment_postings.proofs.Laws.ReachedBounds.{stepping-near}
+use mathlib.Core.Path.{_≡_, refl, ap, _∙_}
 use borrow.Author.Needs.{needs}
+use Rattle.segment_postings.specs.declared.SegmentPostings.{SegmentPostings}
+use Rattle.segment_postings.specs.Cursor.{advanced}
+use Rattle.segment_postings.specs.Calls.{cursorOf}
+use Rattle.segment_postings.proofs.Laws.LandingParts.{same-cursor}
+use Rattle.segment_postings.proofs.Laws.CallsByValue.{advance-in-calls, put-together, put-back}
 use Rattle.segment_postings.proofs.segment_postings.advance.Statement.{statement}
 use Rattle.segment_postings.proofs.segment_postings.advance.Tie as tie
 
@@ -20,22 +19,8 @@ advance-in-requires c κs = search needs
 enum-known-held : tie.Need-enum-known-held
 enum-known-held c = search needs
 
--- the cursor that was taken apart
-same : (c : tie.After-advance-in) →
-    let h = c .before .before .before in
-    let s = h .before .before .before .before in
-    stepping (s .args .cursor) (s .args .image .now) (s .args .term)
-    ≡ stepping (cursorOf (h .held-of .result) (s .args .cursor .docs) (s .args .cursor .freqs)) (s .args .image .now) (s .args .term)
-same c =
-    let h = c .before .before .before in
-    let s = h .before .before .before .before in
-    ap (λ (x : SegmentPostings). stepping x (s .args .image .now) (s .args .term)) (sym (same-cursor (s .args .cursor) (h .held-of .ensures)))
-
 answer-at-requires : tie.Need-answer-at-requires
-unfolding cursorOf
-answer-at-requires c κs =
-    let h = c .before .before .before in
-    stepping-near _ _ _ (reached-at (h .before .before .advance-in .ensures) (h .held .given .1)) .0
+answer-at-requires c κs = search needs
 
 cursor-of-requires : tie.Need-cursor-of-requires
 cursor-of-requires c κs = search needs
@@ -46,20 +31,27 @@ enum-known-n c = search needs
 cursor-of-requires-2 : tie.Need-cursor-of-requires-2
 cursor-of-requires-2 c κs = search needs
 
+-- the cursor that was taken apart
+apart : (w : tie.After-advance-in) →
+    let h = w .before .before .before in
+    let s = h .before .before .before .before in
+    advanced (cursorOf (h .held-of .result) (s .args .cursor .docs) (s .args .cursor .freqs)) (s .args .image .now) (s .args .term)
+    ≡ advanced (s .args .cursor) (s .args .image .now) (s .args .term)
+apart w =
+    let h = w .before .before .before in
+    let s = h .before .before .before .before in
+    ap (λ (x : SegmentPostings). advanced x (s .args .image .now) (s .args .term)) (same-cursor (s .args .cursor) (h .held-of .ensures))
+
 returns : tie.Need-returns
-unfolding advanced
 returns c =
     let h = c .before .before .before .before .before in
-    let s = h .before .before in
-    moved-at _ _ (c .before .answer-at .ensures) (c .cursor-of .ensures)
-    (reached-at (reaches-as (same s) (s .advance-in .ensures)) (h .held .given .1))
+    let w = h .before .before in
+    put-together (advance-in-calls _ _ _ (w .advance-in .ensures)) (h .held .given .1) (c .before .answer-at .ensures) (c .cursor-of .ensures) ∙ apart w
 
 returns-2 : tie.Need-returns-2
-unfolding advanced
 returns-2 c =
-    let s = c .before .before .before .before in
-    moved-back _ _ (reaches-as (same s) (s .advance-in .ensures)) (c .before .before .n .given .1) (s .before .before .before .held-of .ensures)
-    (c .cursor-of2 .ensures)
+    let w = c .before .before .before .before in
+    put-back (advance-in-calls _ _ _ (w .advance-in .ensures)) _ (c .before .before .n .given .1) refl (c .cursor-of2 .ensures) ∙ apart w
 
 pub advance-spec : {M : Type 1} → statement M
 advance-spec =

@@ -1,10 +1,7 @@
 -- `segment_postings::segment_postings::open` meets its contract: where the core came to, put together, is where the definition comes to.
 -- Assumes nothing.
 use mathlib.Core.Path.{sym}
-use native.Mathlib.Omega.{arith}
-use Rattle.segment_postings.specs.Cursor.{opened, blank}
-use Rattle.segment_postings.specs.Calls.{cursorOf}
-use Rattle.segment_postings.proofs.Laws.LandingParts.{reached-at, moved-at, moved-nowhere, opening-first}
+use Rattle.segment_postings.proofs.Laws.CallsByValue.{SameCall, open-in-calls, put-together}
 use borrow.Author.Needs.{needs}
 use Rattle.segment_postings.proofs.segment_postings.open.Statement.{statement}
 use Rattle.segment_postings.proofs.segment_postings.open.Tie as tie
@@ -19,10 +16,7 @@ enum-known-held : tie.Need-enum-known-held
 enum-known-held c = search needs
 
 answer-at-requires : tie.Need-answer-at-requires
-unfolding cursorOf
-answer-at-requires c κs =
-    let h = c .before .before .before in
-    omega (arith, opening-first _ _ (reached-at (h .before .before .open-in .ensures) (h .held .given .1)))
+answer-at-requires c κs = search needs
 
 cursor-of-requires : tie.Need-cursor-of-requires
 cursor-of-requires c κs = search needs
@@ -31,17 +25,15 @@ enum-known-n : tie.Need-enum-known-n
 enum-known-n c = search needs
 
 returns : tie.Need-returns
-unfolding opened
 returns c =
     let h = c .before .before .before .before .before in
-    moved-at _ _ (c .before .answer-at .ensures) (c .cursor-of .ensures)
-    (reached-at (h .before .before .open-in .ensures) (h .held .given .1))
+    put-together (open-in-calls _ _ (h .before .before .open-in .ensures)) (h .held .given .1) (c .before .answer-at .ensures) (c .cursor-of .ensures)
 
 returns-2 : tie.Need-returns-2
-unfolding opened
 returns-2 c =
     let o = c .before .before .before in
-    rw (o .before .before .before .before .before .blank .ensures) (sym (moved-nowhere _ _ (o .open-in .ensures) (c .before .n .given .1)))
+    rw (o .before .before .before .before .before .blank .ensures)
+    (sym (open-in-calls _ _ (o .open-in .ensures) .stayed (c .before .n .given .1) .0))
 
 pub open-spec : {M : Type 1} → statement M
 open-spec =
