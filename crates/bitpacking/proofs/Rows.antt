@@ -8,9 +8,8 @@ use Prim.Native.Nat.{ℕ, _+_, _-_, _*_, _/_, _%_, _^_, _≤_, _<_}
 use native.Mathlib.Nat.{mul-le-mul-right, lt-of-not-le, suc-mul}
 use native.Mathlib.Decide.{decLe}
 use native.Mathlib.Omega.{arith}
-use Rattle.format.specs.Basics.{word}
+use Rattle.format.specs.Basics.{word, AllBelow}
 use Rattle.format.specs.Bitpacking.{unpackedAt}
-use Rattle.format.proofs.Lists.{AllBelow}
 use Rattle.format.proofs.Lanes.{unpackedAt-one-word, unpackedAt-two-words}
 use Rattle.bitpacking.specs.Packed.{fromWords}
 use Rattle.bitpacking.proofs.Shifts.{upper-drops}

@@ -10,12 +10,11 @@ use borrow.Author.Tests.{leb-true, le-leb, eqb-true}
 use lib.Dec.{leb, ltb}
 use lib.ListN.{length, take, drop, length-take, length-drop}
 use Rattle.format.specs.declared.IndexRecordOption.{IndexRecordOption}
-use Rattle.format.specs.Basics.{ok, lastOf, TERMINATED}
+use Rattle.format.specs.Basics.{ok, lastOf, TERMINATED, AllBelow}
 use Rattle.format.specs.SkipEntry.{hasFreq}
 use Rattle.format.specs.Values.{rising, countable}
 use Rattle.format.specs.Written.{image}
-use Rattle.format.specs.Accepted.{keptIn, begin, takeDoc, takeDocs, written}
-use Rattle.format.proofs.Lists.{AllBelow}
+use Rattle.format.specs.Accepted.{keptIn, begin, takeDoc, takeDocs, written, Accepted}
 use Rattle.format.proofs.Values.{rising-cons, rising-take, rising-drop, countable-take, countable-drop}
 use Rattle.format.proofs.Outcome.{refused≢ok, ok-same, ask-ok, andThen-ok}
 
@@ -24,12 +23,6 @@ rising-length least [] h r = omega arith
 rising-length least (d ∷ ds) h r =
     let k = rising-cons least d ds r in
     omega (arith, k .above, rising-length (d + 1) ds (omega arith) (k .rest))
-
--- documents that are accepted where `least` is the least that may come
-pub record Accepted (option : IndexRecordOption) (least : ℕ) (ds fs : List ℕ) : Type 0 where
-  pub rises : rising least ds ≡ true
-  pub counts : hasFreq option ≡ true → countable fs ≡ true
-  pub as-many : length ds ≡ length fs
 
 pub accepted-length : {option : IndexRecordOption} {ds fs : List ℕ} → Accepted option 0 ds fs → length ds ≤ TERMINATED
 accepted-length {ds = ds} a = omega (arith, rising-length 0 ds (omega arith) (a .rises))

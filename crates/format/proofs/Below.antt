@@ -13,11 +13,10 @@ use native.Mathlib.Decide.{decLe}
 use native.Mathlib.Omega.{arith}
 use borrow.Author.Tests.{lt-ltb, le-ltb}
 use lib.ListN.{length, getD, drop, replicate}
-use Rattle.format.specs.Basics.{choose, lastOf}
+use Rattle.format.specs.Basics.{choose, lastOf, AllBelow}
 use Rattle.format.specs.Counts.{countBelow}
 use Rattle.format.specs.Values.{rising}
 use Rattle.format.specs.Reading.{Block, docsOf}
-use Rattle.format.proofs.Lists.{AllBelow}
 use Rattle.format.proofs.Values.{rising-cons, rising-last}
 use Rattle.format.proofs.Blocks.{Blocks, last-one, one-more, blockAt, leastAt, full-sound}
 

@@ -12,9 +12,9 @@ use native.Mathlib.Omega.{arith}
 use lib.ListN.{length, getD, List·getD-append}
 use lib.Dec.{eqb·suc-zero}
 use lib.Pow.{pow-pos, shr-shr}
-use Rattle.format.specs.Basics.{choose, word}
+use Rattle.format.specs.Basics.{choose, word, AllBelow}
 use Rattle.format.specs.Bitpacking.{laneOf, laneAt, packedAt, pack, unpackedAt, unpack, bitsF, largest, width}
-use Rattle.format.proofs.Lists.{AllBelow, allBelow-getD}
+use Rattle.format.proofs.Lists.{allBelow-getD}
 use Rattle.format.proofs.Tabulate.{tabulate-length, tabulate-at, tabulate-is, tabulate-below}
 use Rattle.format.proofs.Digits.{number-of}
 use Rattle.format.proofs.Lanes.{laneOf-below, laneOf-digit, word-number, laneAt-number}

@@ -106,7 +106,7 @@ module _ (option : IndexRecordOption) (wanted alone : Bool) (tail n least : ℕ)
   blocks-at zero h = rw (sub-zero, mul-zero) sound
   blocks-at (suc b) h =
       let entries : entrySize option * suc b ≡ entrySize option * b + entrySize option = omega arith in
-      rw (entries, ← drop-drop, ← drop-drop) (full-of b h (blocks-at b (omega arith)) .1)
+      rw (entries, ← drop-drop (entrySize option) (entrySize option * b) skips, ← drop-drop) (full-of b h (blocks-at b (omega arith)) .1)
 
   pub full-at : (b : ℕ) → b < n → ReadFull option wanted (leastAt least all b) (skipsAt option skips b) (bytesAt b) (blockAt all b)
   full-at b h = full-of b h (blocks-at b (omega arith)) .0

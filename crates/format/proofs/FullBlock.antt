@@ -13,21 +13,21 @@ use lib.ListN.{length, drop, length-append}
 use lib.Seq.{drop-at, drop-drop}
 use Rattle.format.specs.declared.IndexRecordOption.{IndexRecordOption}
 use Rattle.format.specs.declared.BlockInfo.{BlockInfo}
-use Rattle.format.specs.Basics.{ok, ask, andThen, lastOf, TERMINATED}
+use Rattle.format.specs.Basics.{ok, ask, andThen, lastOf, TERMINATED, AllBelow}
 use Rattle.format.specs.Bitpacking.{pack, unpack, width}
 use Rattle.format.specs.Values.{gaps, reduced, restored}
 use Rattle.format.specs.SkipEntry.{hasFreq, entrySize, readEntry, blockSize, entryFits}
 use Rattle.format.specs.Written.{onlyIf, Parts, withBlock}
 use Rattle.format.specs.Reading.{Block, fullDocs, fullFreqs, before, entryBlock, readFrom}
-use Rattle.format.proofs.Lists.{AllBelow, allBelow-le}
+use Rattle.format.specs.ReadsBack.{readFreqs}
+use Rattle.format.specs.Accepted.{Accepted}
+use Rattle.format.proofs.Lists.{allBelow-le}
 use Rattle.format.proofs.Bitpacking.{pack-length, pack-reads-back, width-fits, width-le, width-least}
 use Rattle.format.proofs.Values.{length-gaps, length-reduced, gaps-read-back, gaps-below, freqs-read-back}
 use Rattle.format.proofs.Values.{reduced-below, countable-below, rising-last}
 use Rattle.format.proofs.SkipEntry.{entry-length, entry-reads-back}
 use Rattle.format.proofs.Opened.{withBlock-skips, withBlock-postings, fullDocs-is, fullFreqs-unread, fullFreqs-read}
 use Rattle.format.proofs.Opened.{fullBlock-is, entryBlock-is, readFrom-suc}
-use Rattle.format.proofs.Accepted.{Accepted}
-use Rattle.format.proofs.ReadFreqs.{readFreqs}
 
 -- values below 2 ^ 32 unpack at their width
 unpacked : (vs rest : List ℕ) → length vs ≡ 128 → AllBelow (2 ^ 32) vs → unpack (width vs) (pack (width vs) vs ++ rest) ≡ vs

@@ -11,16 +11,10 @@ use borrow.Author.Tests.{lt-ltb, le-ltb}
 use lib.Dec.{ltb}
 use lib.ListN.{length}
 use Rattle.format.specs.Basics.{choose}
-use Rattle.format.specs.Counts.{countBelow}
+use Rattle.format.specs.Counts.{countBelow, idsBelow}
 use Rattle.format.specs.Values.{rising}
 use Rattle.format.proofs.Values.{rising-cons}
 use Rattle.format.proofs.Below.{count-nil, count-passes, count-stops}
-
--- the ids below the target, wherever in the list they stand
-unfoldable pub idsBelow : ℕ → List ℕ → List ℕ
-unfolding choose
-idsBelow target [] = []
-idsBelow target (d ∷ ds) = choose (ltb d target) (λ _. d ∷ idsBelow target ds) (λ _. idsBelow target ds)
 
 module _ (target : ℕ) where
   ids-pass : (d : ℕ) (ds : List ℕ) → d < target → idsBelow target (d ∷ ds) ≡ d ∷ idsBelow target ds

@@ -10,9 +10,9 @@ use native.Mathlib.Nat.{div-add-mod, mod-lt, mod-one, add-mul-div-left, add-mul-
 use native.Mathlib.Omega.{arith}
 use lib.ListN.{getD}
 use lib.Pow.{pow-pos, pow-add, shr-shr}
-use Rattle.format.specs.Basics.{word}
+use Rattle.format.specs.Basics.{word, AllBelow}
 use Rattle.format.specs.Bitpacking.{laneOf, laneAt, unpackedAt}
-use Rattle.format.proofs.Lists.{AllBelow, allBelow-getD}
+use Rattle.format.proofs.Lists.{allBelow-getD}
 use Rattle.format.proofs.Digits.{number, number-below, number-step, number-digit}
 
 -- the w lowest bits of value i

@@ -6,13 +6,9 @@ use Prim.Native.Nat.{ℕ, zero, suc, _<_, _≤_}
 use native.Mathlib.Nat.{lt-of-lt-of-le}
 use lib.Arith.{lt-one}
 use lib.ListN.{length, getD, replicate}
+use Rattle.format.specs.Basics.{AllBelow}
 
--- every element lies below m
-abbrev pub AllBelow : ℕ → List ℕ → Type 0
-AllBelow m [] = Unit {0}
-AllBelow m (n ∷ ns) = (n < m) × AllBelow m ns
-
--- .. and below any larger bound
+-- below a bound, and so below any larger one
 pub allBelow-le : {m k : ℕ} (ns : List ℕ) → m ≤ k → AllBelow m ns → AllBelow k ns
 allBelow-le [] h a = tt
 allBelow-le (n ∷ ns) h a = (lt-of-lt-of-le (a .0) h, allBelow-le ns h (a .1))

@@ -72,18 +72,18 @@ module _ (e : BlockInfo) (bs bs′ : List ℕ) (same : take (blockSize e) bs ≡
   unfolding blockSize
   same-docs least =
       let docs = same-fewer (blockSize e) bs bs′ same (16 * e .«doc_width») (omega arith) in
-      rw (fullDocs-is, fullDocs-is least e bs′, same-unpacked _ bs bs′ docs)
+      rw (fullDocs-is least e bs, fullDocs-is least e bs′, same-unpacked _ bs bs′ docs)
 
   same-freqs : (wanted : Bool) → fullFreqs wanted e bs ≡ fullFreqs wanted e bs′
   unfolding blockSize
-  same-freqs false = rw (fullFreqs-unread, fullFreqs-unread e bs′)
+  same-freqs false = rw (fullFreqs-unread e bs, fullFreqs-unread e bs′)
   same-freqs true =
       let left : blockSize e - 16 * e .«doc_width» ≡ 16 * e .«freq_width» = omega arith in
       let behind = rw left at (same-behind (blockSize e) bs bs′ same (16 * e .«doc_width»)) in
-      rw (fullFreqs-read, fullFreqs-read e bs′, same-unpacked _ _ _ behind)
+      rw (fullFreqs-read e bs, fullFreqs-read e bs′, same-unpacked _ _ _ behind)
 
   pub same-full : (wanted : Bool) (least : ℕ) → fullBlock wanted least e bs ≡ fullBlock wanted least e bs′
-  same-full wanted least = rw (fullBlock-is, fullBlock-is wanted least e bs′, same-docs least, same-freqs wanted)
+  same-full wanted least = rw (fullBlock-is wanted least e bs, fullBlock-is wanted least e bs′, same-docs least, same-freqs wanted)
 
 -- ---- the skip length
 

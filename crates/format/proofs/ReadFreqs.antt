@@ -1,14 +1,11 @@
--- The frequencies that a reader answers: a list's own where they are read, else a 1 for each.
+-- The frequencies that a reader answers, of two lists one behind the other.
 -- Assumes nothing.
 use mathlib.Core.Bool.{Bool, true, false}
 use mathlib.Core.List.{List, _++_}
 use mathlib.Core.Path.{_≡_, refl}
 use Prim.Native.Nat.{ℕ}
-use lib.ListN.{length, replicate, length-append, replicate-append-replicate}
-
-unfoldable pub readFreqs : Bool → List ℕ → List ℕ
-readFreqs true fs = fs
-readFreqs false fs = replicate (length fs) 1
+use lib.ListN.{length-append, replicate-append-replicate}
+use Rattle.format.specs.ReadsBack.{readFreqs}
 
 pub readFreqs-append : (read : Bool) (a b : List ℕ) → readFreqs read (a ++ b) ≡ readFreqs read a ++ readFreqs read b
 unfolding readFreqs

@@ -11,27 +11,21 @@ use native.Mathlib.Omega.{arith}
 use lib.Dec.{ltb}
 use lib.ListN.{length, take, take-append-drop, length-take, length-drop}
 use Rattle.format.specs.declared.IndexRecordOption.{IndexRecordOption}
-use Rattle.format.specs.Basics.{ok}
+use Rattle.format.specs.Basics.{ok, AllBelow}
 use Rattle.format.specs.SkipEntry.{hasFreq, entrySize}
 use Rattle.format.specs.Written.{Parts, parts, headed}
-use Rattle.format.specs.Accepted.{keptIn, written}
+use Rattle.format.specs.Accepted.{keptIn, written, Accepted}
 use Rattle.format.specs.declared.Term.{Term}
 use Rattle.format.specs.Layout.{fullBlocks, tailLength}
 use Rattle.format.specs.Reading.{Block, Reading, nothing, before, readFrom, reading, soundness, docsOf, freqsOf}
-use Rattle.format.proofs.Lists.{AllBelow}
+use Rattle.format.specs.ReadsBack.{readFreqs, ReadsBack}
 use Rattle.format.proofs.Opened.{parts-zero, parts-suc, headed-zero, image-is}
 use Rattle.format.proofs.Opened.{readFrom-zero, readAll-ok, reading-is, soundness-is}
-use Rattle.format.proofs.Accepted.{Accepted, accepted-take, accepted-drop, accepted-length, written-ok}
-use Rattle.format.proofs.ReadFreqs.{readFreqs, readFreqs-append}
+use Rattle.format.proofs.Accepted.{accepted-take, accepted-drop, accepted-length, written-ok}
+use Rattle.format.proofs.ReadFreqs.{readFreqs-append}
 use Rattle.format.proofs.FullBlock.{block-reads-back}
 use Rattle.format.proofs.Tail.{Finds, finds-own, finds-kept, tail-reads-back}
 use Rattle.format.proofs.ImageLayout.{skips-length, layout-alone, layout-headed, postings-alone, skips-found, postings-found}
-
--- a walk to the end, and the documents and frequencies that it reads
-pub record ReadsBack (ds fs : List ℕ) (r : Reading) : Type 0 where
-  pub sound : r .refusal ≡ 0
-  pub docs : docsOf (r .blocks) ≡ ds
-  pub freqs : freqsOf (r .blocks) ≡ fs
 
 at-end : ReadsBack [] [] (nothing 0)
 unfolding nothing docsOf freqsOf

@@ -111,7 +111,7 @@ module _ (mode requested count : ℕ) (bs : List ℕ) (known : requested ≤ 2) 
 
   same-layout : layout (term requested) bs ≡ layout (term 1) bs
   unfolding fullBlocks
-  same-layout = rw (layout-is, layout-is (term 1) bs, le-leb requested 2 known, same-split (skipLength bs))
+  same-layout = rw (layout-is (term requested) bs, layout-is (term 1) bs, le-leb requested 2 known, same-split (skipLength bs))
 
   -- the walk in the requested mode
   walk : (other : List Block) × (reading (term requested) bs ≡ through other) × (docsOf other ≡ docsOf (reading (term 1) bs .blocks))

@@ -9,8 +9,7 @@ use native.Mathlib.Numerals.{add-one, one-add}
 use native.Mathlib.Omega.{arith}
 use lib.ListN.{length, getD, drop, set}
 use lib.Seq.{drop-cons, set-at, append-snoc, ext-getD}
-use Rattle.format.specs.Basics.{tabulateFrom, tabulate}
-use Rattle.format.proofs.Lists.{AllBelow}
+use Rattle.format.specs.Basics.{tabulateFrom, tabulate, AllBelow}
 
 from-length : {A : Type 0} (n k : ℕ) (f : ℕ → A) → length (tabulateFrom n k f) ≡ n
 unfolding tabulateFrom

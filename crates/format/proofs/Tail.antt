@@ -13,19 +13,18 @@ use lib.ListN.{length, length-append}
 use lib.Seq.{drop-append-seam, drop-length}
 use Rattle.format.specs.declared.IndexRecordOption.{IndexRecordOption}
 use Rattle.format.specs.declared.IndexRecordOption.the-variants.{Basic, WithFreqs}
-use Rattle.format.specs.Basics.{ok, ask, andThen, TERMINATED}
+use Rattle.format.specs.Basics.{ok, ask, andThen, TERMINATED, AllBelow}
 use Rattle.format.specs.Vint.{vint, vints}
 use Rattle.format.specs.Values.{gaps, rising, countable}
 use Rattle.format.specs.SkipEntry.{hasFreq}
 use Rattle.format.specs.Written.{onlyIf}
-use Rattle.format.specs.Accepted.{keptIn}
+use Rattle.format.specs.Accepted.{keptIn, Accepted}
 use Rattle.format.specs.Reading.{numbers, ended, tailFreqs, tailHasFreq, tailBlock}
-use Rattle.format.proofs.Lists.{AllBelow, allBelow-le}
+use Rattle.format.specs.ReadsBack.{readFreqs}
+use Rattle.format.proofs.Lists.{allBelow-le}
 use Rattle.format.proofs.Vints.{numbers-read-back, vint-length-pos}
 use Rattle.format.proofs.Values.{length-gaps, gaps-read-back, gaps-below, countable-below}
 use Rattle.format.proofs.Opened.{numbers-is, tailFreqs-read, tailBlock-is}
-use Rattle.format.proofs.Accepted.{Accepted}
-use Rattle.format.proofs.ReadFreqs.{readFreqs}
 
 numbers-ok : (ns rest : List ℕ) → AllBelow (2 ^ 32) ns
     → numbers (length ns) (vints ns ++ rest) ≡ ok (record { values = ns; used = length (vints ns); complete = true })

@@ -12,24 +12,16 @@ use borrow.Author.Tests.{le-leb, lt-ltb, le-ltb}
 use lib.Dec.{ltb}
 use lib.ListN.{length, take}
 use Rattle.format.specs.declared.Term.{Term}
-use Rattle.format.specs.Basics.{ok, ask, choose, TERMINATED}
+use Rattle.format.specs.Basics.{ok, ask, choose, TERMINATED, AllBelow}
 use Rattle.format.specs.Values.{rising}
 use Rattle.format.specs.Layout.{fullBlocks, tailLength}
 use Rattle.format.specs.Reading.{Reading, reading, soundness, docsOf, freqsOf}
-use Rattle.format.specs.Counts.{countBelow, sum, totalIn, total}
-use Rattle.format.proofs.Lists.{AllBelow}
+use Rattle.format.specs.Counts.{countBelow, sumBelow, sum, totalIn, total}
 use Rattle.format.proofs.Values.{rising-cons, rising-below}
 use Rattle.format.proofs.Below.{count-nil, count-passes, count-stops}
 use Rattle.format.proofs.Blocks.{Blocks, docs-rising, docs-many, freqs-many}
 use Rattle.format.proofs.Sound.{sound-image, sound-blocks}
 use Rattle.format.proofs.Opened.{soundness-is}
-
--- the sum of the frequencies of the documents below the target
-unfoldable pub sumBelow : ℕ → List ℕ → List ℕ → ℕ
-unfolding choose
-sumBelow target [] fs = 0
-sumBelow target (d ∷ ds) [] = 0
-sumBelow target (d ∷ ds) (f ∷ fs) = choose (ltb d target) (λ _. f) (λ _. 0) + sumBelow target ds fs
 
 -- none of them lies below where the least that may come doesn't
 none-below : (target least : ℕ) (ds fs : List ℕ) → rising least ds ≡ true → target ≤ least → sumBelow target ds fs ≡ 0

@@ -11,9 +11,8 @@ use native.Mathlib.Omega.{arith}
 use borrow.Author.Tests.{leb-true, ltb-true}
 use lib.Dec.{leb}
 use lib.ListN.{length, take, drop, length-map, take-append-drop}
-use Rattle.format.specs.Basics.{TERMINATED, lastOf}
+use Rattle.format.specs.Basics.{TERMINATED, lastOf, AllBelow}
 use Rattle.format.specs.Values.{reduction, origin, gapsFrom, gaps, idsFrom, ids, reduced, restored, rising, countable}
-use Rattle.format.proofs.Lists.{AllBelow}
 
 -- ---- lengths
 

@@ -15,10 +15,10 @@ use lib.Dec.{leb, ltb, eqb}
 use lib.ListN.{take, drop}
 use borrow.Author.Tests.{le-leb, lt-leb, le-ltb, ne-eqb, ltb-true, ltb-false}
 use Rattle.format.proofs.Values.{rising-below, countable-below}
-use Rattle.format.specs.Basics.{lastOf, TERMINATED}
+use Rattle.format.specs.Basics.{lastOf, TERMINATED, AllBelow}
 use Rattle.format.specs.Model.{member}
 use Rattle.format.specs.Values.{idsFrom, ids, restored, rising, countable, reduction, origin}
-use Rattle.format.proofs.Lists.{AllBelow, allBelow-le}
+use Rattle.format.proofs.Lists.{allBelow-le}
 
 pub reduction-small : (strict : Bool) → reduction strict ≤ 1
 unfolding reduction

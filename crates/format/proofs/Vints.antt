@@ -17,10 +17,9 @@ use lib.ListN.{length, drop, length-append, length-drop}
 use lib.Seq.{drop-append-seam}
 use Rattle.format.specs.declared.VInt.{VInt}
 use Rattle.format.specs.declared.VInt.the-variants.{Number, Malformed}
-use Rattle.format.specs.Basics.{choose}
+use Rattle.format.specs.Basics.{choose, AllBelow}
 use Rattle.format.specs.Vint.{vintF, vint, vints, onward, readF, below, readVint, tailNumber, skipLength}
 use Rattle.format.specs.Vint.{Numbers, inFront, tailNumbers}
-use Rattle.format.proofs.Lists.{AllBelow}
 use Rattle.format.proofs.Choice.{choose-elim}
 
 -- ---- a number's bytes

@@ -12,11 +12,11 @@ use native.Mathlib.Omega.{arith}
 use borrow.Author.Tests.{le-leb, lt-leb, eq-eqb, ne-eqb}
 use lib.Dec.{leb}
 use lib.ListN.{length, drop, length-drop}
-use Rattle.format.specs.Basics.{choose, TERMINATED}
+use Rattle.format.specs.Basics.{choose, TERMINATED, AllBelow}
 use Rattle.format.specs.Counts.{countBelow}
 use Rattle.format.specs.Values.{rising}
 use Rattle.format.specs.Model.{Call, step, seek, State, member, visit, opened, moved, after, afterAll}
-use Rattle.format.proofs.Lists.{AllBelow, allBelow-le}
+use Rattle.format.proofs.Lists.{allBelow-le}
 use Rattle.format.proofs.Choice.{choose-elim}
 use Rattle.format.proofs.Below.{count-le, seek-position}
 

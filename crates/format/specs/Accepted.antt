@@ -1,7 +1,8 @@
 -- Which lists are accepted (questions 1 and 11 to 14), and the image of an accepted one.
 -- Assumes nothing.
-use mathlib.Core.Bool.{Bool, not, _&&_ as and, _||_ as or}
+use mathlib.Core.Bool.{Bool, true, not, _&&_ as and, _||_ as or}
 use mathlib.Core.List.{List, [], _∷_}
+use mathlib.Core.Path.{_≡_}
 use Prim.Native.Nat.{ℕ, _+_}
 use lib.ListN.{length}
 use lib.Dec.{eqb, leb, ltb}
@@ -10,6 +11,7 @@ use Rattle.format.specs.declared.IndexRecordOption.the-variants.{Basic, 
 use Rattle.format.specs.Basics.{Outcome, ok, refused, andThen, ask, choose, TERMINATED}
 use Rattle.format.specs.Refusal.{unknownMode, idTooLarge, idNotRising, freqZero, countMismatch}
 use Rattle.format.specs.SkipEntry.{hasFreq}
+use Rattle.format.specs.Values.{rising, countable}
 use Rattle.format.specs.Written.{image}
 
 -- frequencies are kept if the mode is 1 and the caller records them
@@ -46,3 +48,10 @@ written mode recording ds fs =
     ask (eqb (length ds) (length fs)) countMismatch λ _.
     andThen (takeDocs option 0 ds fs) λ _.
     ok (image option ds fs)
+
+-- the order's sentence on a list: where `least` is the least id that may come, its ids rise strictly and lie below TERMINATED, those of
+-- its frequencies that are kept are at least 1 (and numbers of 32 bits), and there are as many of the one as of the other
+pub record Accepted (option : IndexRecordOption) (least : ℕ) (ds fs : List ℕ) : Type 0 where
+  pub rises : rising least ds ≡ true
+  pub counts : hasFreq option ≡ true → countable fs ≡ true
+  pub as-many : length ds ≡ length fs

@@ -2,7 +2,7 @@
 -- Assumes nothing.
 use mathlib.Core.Bool.{Bool, true, false}
 use mathlib.Core.List.{List, [], _∷_, _++_}
-use Prim.Native.Nat.{ℕ, zero, suc, _+_, _*_, _/_, _%_}
+use Prim.Native.Nat.{ℕ, zero, suc, _+_, _*_, _/_, _%_, _<_}
 use lib.ListN.{length, getD, take, drop}
 use lib.Dec.{leb}
 use Rattle.format.specs.declared.Next.{Next}
@@ -45,6 +45,11 @@ tabulate n f = tabulateFrom n 0 f
 unfoldable pub lastOf : ℕ → List ℕ → ℕ
 lastOf z [] = z
 lastOf z (d ∷ ds) = lastOf d ds
+
+-- every element lies below m
+abbrev pub AllBelow : ℕ → List ℕ → Type 0
+AllBelow m [] = Unit {0}
+AllBelow m (n ∷ ns) = (n < m) × AllBelow m ns
 
 -- the 32-bit number at place p, lowest byte first
 unfoldable pub word : List ℕ → ℕ → ℕ

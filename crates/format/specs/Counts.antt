@@ -1,4 +1,5 @@
--- Rank and total: how many documents lie below a target, and the sum of their frequencies.
+-- How many documents lie below a target, which ones they are, and the total, the sum of their frequencies. Rank, which a fresh cursor
+-- counts by a seek, is `ranking` of crate segment_postings.
 -- Assumes nothing.
 use mathlib.Core.Bool.{_||_ as or}
 use mathlib.Core.List.{List, [], _∷_}
@@ -34,3 +35,18 @@ unfolding ask totalIn reading
 total mode count bs target =
     ask (leb target TERMINATED) targetTooLarge λ _.
     totalIn target (reading (record { mode = mode; requested = 1; count = count }) bs)
+
+-- ---- what rank and total are on a sound image (crate postings: `rank-counted`, `total-sums`)
+
+-- the ids below the target, wherever in the list they stand
+unfoldable pub idsBelow : ℕ → List ℕ → List ℕ
+unfolding choose
+idsBelow target [] = []
+idsBelow target (d ∷ ds) = choose (ltb d target) (λ _. d ∷ idsBelow target ds) (λ _. idsBelow target ds)
+
+-- the sum of the frequencies of the documents below the target
+unfoldable pub sumBelow : ℕ → List ℕ → List ℕ → ℕ
+unfolding choose
+sumBelow target [] fs = 0
+sumBelow target (d ∷ ds) [] = 0
+sumBelow target (d ∷ ds) (f ∷ fs) = choose (ltb d target) (λ _. f) (λ _. 0) + sumBelow target ds fs

@@ -8,6 +8,7 @@ pub mod Written
 pub mod Accepted
 pub mod Layout
 pub mod Reading
+pub mod ReadsBack
 pub mod Counts
 pub mod Model
 pub mod Worked

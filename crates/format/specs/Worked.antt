@@ -7,8 +7,10 @@ use lib.ListN.{length, replicate}
 use lib.Dec.{eqb}
 use Rattle.format.specs.Basics.{Outcome, ok, refused, tabulate, TERMINATED}
 use Rattle.format.specs.Refusal.{entryBroken, bytesLeft, targetTooLarge, idTooLarge}
-use Rattle.format.specs.Accepted.{written}
+use Rattle.format.specs.SkipEntry.{hasFreq}
+use Rattle.format.specs.Accepted.{keptIn, written}
 use Rattle.format.specs.Reading.{Reading, reading, soundness, docsOf, freqsOf}
+use Rattle.format.specs.ReadsBack.{readFreqs}
 use Rattle.format.specs.Counts.{total}
 use Rattle.format.specs.Model.{Call, Answer, State, answers, afterAll, opened, entriesRead}
 use Rattle.format.specs.Model as model
@@ -26,7 +28,8 @@ shown (model.at d f u ∷ rest) = 0 ∷ d ∷ f ∷ u ∷ shown rest
 shown (model.refused n ∷ rest) = n ∷ shown rest
 
 pub data Case : Type 0 where
-  -- in this mode, recording, these ids and frequencies are written as these bytes, which are sound and read back
+  -- in this mode, recording, these ids and frequencies are written as these bytes, which are sound and read back: the ids, and the
+  -- frequencies where they are kept, else a 1 for each
   writes : ℕ → List ℕ → List ℕ → List ℕ → Case
   -- .. are refused under this number
   refuses : ℕ → List ℕ → List ℕ → ℕ → Case
@@ -36,10 +39,10 @@ pub data Case : Type 0 where
   holds : ℕ → ℕ → List ℕ → List ℕ → Case
   -- .. has, below this target, this total
   totals : ℕ → ℕ → List ℕ → ℕ → ℕ → Case
-  -- on this many documents 0, 1, .. these calls answer so, opening first
-  answersTo : List ℕ → List Call → List Answer → Case
-  -- .. and end at this position, with this many skip entries read
-  endsAt : List ℕ → List Call → ℕ → ℕ → Case
+  -- .. on what is read from it the model answers these calls so, opening first
+  answersTo : ℕ → ℕ → List ℕ → List Call → List Answer → Case
+  -- .. the model comes by these calls to this position, with this many skip entries read
+  endsAt : ℕ → ℕ → List ℕ → List Call → ℕ → ℕ → Case
 
 unfoldable pub numberOf : {A : Type 0} → Outcome A → ℕ
 numberOf (ok a) = 0
@@ -59,19 +62,23 @@ unfolding reading
 readIn mode count bs = reading (record { mode = mode; requested = 1; count = count }) bs
 
 unfoldable pub passes : Case → Bool
-unfolding isOk isNumber numberOf same shown written readIn soundness docsOf freqsOf total answers afterAll opened entriesRead
+unfolding isOk isNumber numberOf same shown hasFreq keptIn written readIn soundness docsOf freqsOf readFreqs total answers afterAll opened entriesRead
 passes (writes mode ds fs bs) =
+    let r : Reading = readIn mode (length ds) bs in
     and (isOk (written mode true ds fs) bs)
     (and (eqb (soundness mode (length ds) bs) 0)
-    (same (docsOf (readIn mode (length ds) bs .blocks)) ds))
+    (and (same (docsOf (r .blocks)) ds)
+    (same (freqsOf (r .blocks)) (readFreqs (hasFreq (keptIn mode true)) fs))))
 passes (refuses mode ds fs n) = eqb (numberOf (written mode true ds fs)) n
 passes (weighs mode count bs n) = eqb (soundness mode count bs) n
 passes (holds mode count bs fs) = same (freqsOf (readIn mode count bs .blocks)) fs
 passes (totals mode count bs target n) = isNumber (total mode count bs target) n
-passes (answersTo ds cs expected) = same (shown (answers ds (replicate (length ds) 1) cs)) (shown expected)
-passes (endsAt ds cs p n) =
-    let s : State = afterAll ds opened cs in
-    and (eqb (s .position) p) (eqb (entriesRead (length ds) (s .position)) n)
+passes (answersTo mode count bs cs expected) =
+    let r : Reading = readIn mode count bs in
+    same (shown (answers (docsOf (r .blocks)) (freqsOf (r .blocks)) cs)) (shown expected)
+passes (endsAt mode count bs cs p n) =
+    let s : State = afterAll (docsOf (readIn mode count bs .blocks)) opened cs in
+    and (eqb (s .position) p) (eqb (entriesRead count (s .position)) n)
 
 unfoldable pub allPass : List Case → Bool
 unfolding passes
@@ -90,23 +97,33 @@ ones n = replicate n 1
 unfoldable pub three : List ℕ
 three = 0x83 ∷ 0x84 ∷ 0x25 ∷ 0x82 ∷ 0x81 ∷ 0x82 ∷ 0x02 ∷ 0x81 ∷ []
 
+-- 0 to 128, mode 0
+unfoldable pub blockAndOne : List ℕ
+blockAndOne = 0x85 ∷ 0x7F ∷ 0 ∷ 0 ∷ 0 ∷ 0x40 ∷ 0x81 ∷ []
+
+-- 2147483646 alone, mode 0
+unfoldable pub largestId : List ℕ
+largestId = 0x7E ∷ 0x7F ∷ 0x7F ∷ 0x7F ∷ 0x87 ∷ []
+
 -- an image of the ids 0 to 127 whose frequency width is w
 unfoldable pub wide : ℕ → ℕ → List ℕ
 wide w size = 0x88 ∷ 0x7F ∷ 0 ∷ 0 ∷ 0 ∷ 0x40 ∷ w ∷ 0 ∷ 0 ∷ replicate size 0
 
 unfoldable pub table : List Case
-unfolding run ones three wide
+unfolding run ones three blockAndOne largestId wide
 table =
     writes 1 [] [] []
     ∷ weighs 0 0 (7 ∷ []) bytesLeft
     ∷ weighs 1 0 (7 ∷ []) bytesLeft
-    ∷ answersTo [] [] (model.at TERMINATED 0 1 ∷ [])
+    ∷ answersTo 1 0 [] [] (model.at TERMINATED 0 1 ∷ [])
     ∷ writes 1 (0 ∷ []) (1 ∷ []) (0x80 ∷ 0x81 ∷ [])
     ∷ writes 0 (0 ∷ []) (1 ∷ []) (0x80 ∷ [])
     ∷ writes 1 (3 ∷ 7 ∷ 300 ∷ []) (1 ∷ 2 ∷ 130 ∷ []) three
     ∷ holds 1 3 three (1 ∷ 2 ∷ 130 ∷ [])
     ∷ totals 1 3 three 300 3
     ∷ totals 1 3 three TERMINATED 133
+    ∷ answersTo 1 3 three (model.step ∷ model.step ∷ model.step ∷ [])
+    (model.at 3 1 1 ∷ model.at 7 2 1 ∷ model.at 300 130 1 ∷ model.at TERMINATED 0 1 ∷ [])
     ∷ weighs 1 3 (0x83 ∷ 0x84 ∷ 0x25 ∷ 0x82 ∷ []) 0
     ∷ holds 1 3 (0x83 ∷ 0x84 ∷ 0x25 ∷ 0x82 ∷ []) (1 ∷ 1 ∷ 1 ∷ [])
     ∷ writes 1 (run 0 128) (ones 128) (0x88 ∷ 0x7F ∷ 0 ∷ 0 ∷ 0 ∷ 0x40 ∷ 0 ∷ 0 ∷ 0 ∷ [])
@@ -114,12 +131,12 @@ table =
     ∷ writes 0 (run 0 127) (ones 127) (0x80 ∷ replicate 126 0x81)
     ∷ writes 0 (run 1 128) (ones 128) (0x85 ∷ 0x80 ∷ 0 ∷ 0 ∷ 0 ∷ 0x41 ∷ 0x01 ∷ replicate 15 0)
     ∷ writes 0 (run 0 127 ++ (128 ∷ [])) (ones 128) (0x85 ∷ 0x80 ∷ 0 ∷ 0 ∷ 0 ∷ 0x41 ∷ (replicate 15 0 ++ (0x80 ∷ [])))
-    ∷ writes 0 (run 0 129) (ones 129) (0x85 ∷ 0x7F ∷ 0 ∷ 0 ∷ 0 ∷ 0x40 ∷ 0x81 ∷ [])
-    ∷ answersTo (run 0 129) (model.seek 128 ∷ []) (model.at 0 1 1 ∷ model.at 128 1 2 ∷ [])
-    ∷ endsAt (run 0 129) (model.seek 128 ∷ []) 128 1
-    ∷ writes 0 (2147483646 ∷ []) (1 ∷ []) (0x7E ∷ 0x7F ∷ 0x7F ∷ 0x7F ∷ 0x87 ∷ [])
+    ∷ writes 0 (run 0 129) (ones 129) blockAndOne
+    ∷ answersTo 0 129 blockAndOne (model.seek 128 ∷ []) (model.at 0 1 1 ∷ model.at 128 1 2 ∷ [])
+    ∷ endsAt 0 129 blockAndOne (model.seek 128 ∷ []) 128 1
+    ∷ writes 0 (2147483646 ∷ []) (1 ∷ []) largestId
     ∷ refuses 0 (TERMINATED ∷ []) (1 ∷ []) idTooLarge
-    ∷ answersTo (2147483646 ∷ []) (model.seek 2147483648 ∷ model.seek TERMINATED ∷ [])
+    ∷ answersTo 0 1 largestId (model.seek 2147483648 ∷ model.seek TERMINATED ∷ [])
     (model.at 2147483646 1 1 ∷ model.refused targetTooLarge ∷ model.at TERMINATED 0 1 ∷ [])
     ∷ weighs 1 128 (wide 32 512) 0
     ∷ weighs 1 128 (wide 33 528) entryBroken

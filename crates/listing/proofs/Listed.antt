@@ -8,14 +8,13 @@ use Prim.Native.Nat.{ℕ, _≤_, _<_, _^_}
 use native.Mathlib.Omega.{arith}
 use borrow.Author.Tests.{le-leb, lt-leb}
 use lib.ListN.{length, take}
-use Rattle.format.specs.Basics.{Outcome, ok, refused, choose, putAt}
+use Rattle.format.specs.Basics.{Outcome, ok, refused, choose, putAt, AllBelow}
 use Rattle.format.specs.SkipEntry.{hasFreq}
 use Rattle.format.specs.Accepted.{keptIn, written}
 use Rattle.format.specs.Reading.{reading, docsOf, freqsOf}
+use Rattle.format.specs.ReadsBack.{readFreqs, ReadsBack}
 use Rattle.format.proofs.Area.{length-putAt}
-use Rattle.format.proofs.Lists.{AllBelow}
-use Rattle.format.proofs.ReadFreqs.{readFreqs}
-use Rattle.format.proofs.ReadsBack.{ReadsBack, reads-back}
+use Rattle.format.proofs.ReadsBack.{reads-back}
 use Rattle.serializer.specs.declared.Answer.{Answer}
 use Rattle.serializer.specs.declared.Answer.the-variants.{Bytes, Refused}
 use Rattle.serializer.specs.Writer as writer

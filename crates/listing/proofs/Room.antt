@@ -8,12 +8,12 @@ use Prim.Native.Nat.{ℕ, zero, suc, _+_, _*_, _/_, _≤_, _^_}
 use native.Mathlib.Omega.{arith}
 use lib.ListN.{length, take, drop, length-append, length-drop}
 use Rattle.format.specs.declared.IndexRecordOption.the-variants.{WithFreqs}
-use Rattle.format.specs.Basics.{ok, choose, lastOf, TERMINATED}
+use Rattle.format.specs.Basics.{ok, choose, lastOf, TERMINATED, AllBelow}
 use Rattle.format.specs.Values.{gapsFrom}
 use Rattle.format.specs.SkipEntry.{hasFreq, entrySize}
 use Rattle.format.specs.Written.{onlyIf}
 use Rattle.format.specs.Accepted.{keptIn, written}
-use Rattle.format.proofs.Lists.{AllBelow, allBelow-le}
+use Rattle.format.proofs.Lists.{allBelow-le}
 use Rattle.format.proofs.Values.{rising-below}
 use Rattle.format.proofs.Vints.{vint-length-le, vints-length-le}
 use Rattle.format.proofs.Accepted.{Written, written-ok}

@@ -16,15 +16,14 @@ use borrow.Author.Tests.{le-leb, eq-eqb}
 use lib.Dec.{leb, ltb}
 use lib.ListN.{length}
 use Rattle.format.specs.declared.IndexRecordOption.{IndexRecordOption}
-use Rattle.format.specs.Basics.{Outcome, ok, refused, andThen, ask, TERMINATED}
+use Rattle.format.specs.Basics.{Outcome, ok, refused, andThen, ask, TERMINATED, AllBelow}
 use Rattle.format.specs.SkipEntry.{hasFreq}
 use Rattle.format.specs.Values.{rising, countable}
 use Rattle.format.specs.Written.{image}
-use Rattle.format.specs.Accepted.{keptIn, begin, takeDoc, takeDocs, written}
+use Rattle.format.specs.Accepted.{keptIn, begin, takeDoc, takeDocs, written, Accepted}
 use Rattle.format.specs.Reading.{reading, soundness}
-use Rattle.format.proofs.Lists.{AllBelow}
 use Rattle.format.proofs.Opened.{soundness-is}
-use Rattle.format.proofs.Accepted.{Accepted, written-ok}
+use Rattle.format.proofs.Accepted.{written-ok}
 use Rattle.serializer.specs.declared.Answer.{Answer}
 use Rattle.serializer.specs.declared.Answer.the-variants.{Bytes, Refused}
 use Rattle.serializer.specs.declared.PostingsSerializer.{PostingsSerializer}

@@ -14,19 +14,16 @@ use lib.Dec.{ltb}
 use lib.ListN.{length, take}
 use lib.Seq.{take-append-le, take-length}
 use Rattle.format.specs.declared.Term.{Term}
-use Rattle.format.specs.Basics.{ok, choose, fitsAt, putAt, TERMINATED}
+use Rattle.format.specs.Basics.{ok, choose, fitsAt, putAt, TERMINATED, AllBelow}
 use Rattle.format.specs.SkipEntry.{hasFreq}
 use Rattle.format.specs.Written.{image}
 use Rattle.format.specs.Accepted.{keptIn}
 use Rattle.format.specs.Reading.{reading, soundness, docsOf, freqsOf}
-use Rattle.format.specs.Counts.{total}
+use Rattle.format.specs.Counts.{total, idsBelow, sumBelow}
 use Rattle.format.specs.Model.{answers}
-use Rattle.format.proofs.IdsBelow.{idsBelow}
-use Rattle.format.proofs.Lists.{AllBelow}
+use Rattle.format.specs.ReadsBack.{readFreqs, ReadsBack}
 use Rattle.format.proofs.Accepted.{written-ok}
-use Rattle.format.proofs.ReadFreqs.{readFreqs}
-use Rattle.format.proofs.ReadsBack.{ReadsBack}
-use Rattle.format.proofs.Totals.{sumBelow, total-below}
+use Rattle.format.proofs.Totals.{total-below}
 use Rattle.serializer.specs.declared.Answer.the-variants.{Bytes}
 use Rattle.serializer.specs.Writer as writer
 use Rattle.serializer.specs.Writer.{listing}

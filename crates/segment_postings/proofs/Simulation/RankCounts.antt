@@ -11,12 +11,12 @@ use lib.ListN.{length}
 use Rattle.format.specs.declared.Term.{Term}
 use Rattle.format.specs.Basics.{ok, refused, TERMINATED}
 use Rattle.format.specs.Refusal.{targetTooLarge}
-use Rattle.format.specs.Counts.{countBelow}
+use Rattle.format.specs.Counts.{countBelow, idsBelow}
 use Rattle.format.specs.Model.{seek, after}
 use Rattle.format.specs.Model as model
 use Rattle.format.specs.Reading.{reading, soundness, docsOf}
 use Rattle.format.proofs.Blocks.{docs-rising}
-use Rattle.format.proofs.IdsBelow.{idsBelow, count-ids}
+use Rattle.format.proofs.IdsBelow.{count-ids}
 use Rattle.format.proofs.Opened.{soundness-is}
 use Rattle.format.proofs.Requested.{sound-requested, same-docs}
 use Rattle.format.proofs.Sound.{Sound, sound-image, sound-blocks}

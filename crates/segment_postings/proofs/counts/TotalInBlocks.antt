@@ -13,14 +13,13 @@ use lib.ListN.{length, getD, take, drop, length-append, drop-of-length-le}
 use lib.Seq.{take-suc, drop-cons, take-append-le, take-append-add}
 use borrow.Author.Tests.{ltb-true, ltb-false, lt-ltb, le-ltb, le-leb, lt-leb, ne-eqb}
 use lib.Dec.{eqb, ltb}
-use Rattle.format.specs.Basics.{Outcome, ok, refused, ask, choose, TERMINATED}
+use Rattle.format.specs.Basics.{Outcome, ok, refused, ask, choose, TERMINATED, AllBelow}
 use Rattle.format.specs.Refusal.{targetTooLarge}
 use Rattle.format.specs.declared.Term.{Term}
 use Rattle.format.specs.Layout.{layout}
 use Rattle.format.specs.Reading.{Block, Reading, nothing, before, readAll, reading, docsOf, freqsOf}
 use Rattle.format.specs.Counts.{countBelow, sum, totalIn, total}
 use Rattle.format.proofs.Below.{count-passes, count-stops, count-nil, count-front, count-within}
-use Rattle.format.proofs.Lists.{AllBelow}
 use Rattle.format.proofs.Opened.{reading-is}
 use Rattle.format.proofs.Sound.{layout-numbered}
 

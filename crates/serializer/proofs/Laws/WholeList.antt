@@ -10,16 +10,15 @@ use native.Mathlib.Nat.{zero-add}
 use borrow.Author.Tests.{le-leb, leb-true}
 use lib.Dec.{ltb}
 use lib.ListN.{length}
-use Rattle.format.specs.Basics.{ok, andThen, ask, fitsAt}
+use Rattle.format.specs.Basics.{ok, andThen, ask, fitsAt, AllBelow}
 use Rattle.format.specs.Refusal.{noRoom}
 use Rattle.format.specs.SkipEntry.{hasFreq}
 use Rattle.format.specs.Written.{Parts}
 use Rattle.format.specs.Accepted.{keptIn, written}
 use Rattle.format.specs.Reading.{reading, soundness}
-use Rattle.format.proofs.Lists.{AllBelow}
+use Rattle.format.specs.ReadsBack.{readFreqs, ReadsBack}
 use Rattle.format.proofs.Outcome.{ok-same, ask-ok, andThen-ok}
-use Rattle.format.proofs.ReadFreqs.{readFreqs}
-use Rattle.format.proofs.ReadsBack.{ReadsBack, reads-back, written-sound}
+use Rattle.format.proofs.ReadsBack.{reads-back, written-sound}
 use Rattle.serializer.specs.Writer.{blocksOf, listing}
 
 -- room for a list's full blocks and their entries in the areas, and for its image in the output

@@ -11,11 +11,10 @@ use native.Mathlib.Omega.{arith}
 use borrow.Author.Tests.{leb-true}
 use lib.ListN.{length}
 use Rattle.format.specs.declared.IndexRecordOption.{IndexRecordOption}
-use Rattle.format.specs.Basics.{Outcome, ok, refused, andThen, ask, putAt, fitsAt}
+use Rattle.format.specs.Basics.{Outcome, ok, refused, andThen, ask, putAt, fitsAt, AllBelow}
 use Rattle.format.specs.Refusal.{noRoom}
 use Rattle.format.specs.Written.{Parts, parts}
 use Rattle.format.specs.Accepted.{takeDoc, takeDocs}
-use Rattle.format.proofs.Lists.{AllBelow}
 use Rattle.format.proofs.Outcome.{refused≢ok}
 use Rattle.format.proofs.Area.{length-putAt}
 use Rattle.serializer.specs.declared.PostingsSerializer.{PostingsSerializer}

@@ -14,12 +14,11 @@ use borrow.Author.Tests.{le-leb, lt-leb, eq-eqb, ne-eqb}
 use lib.Dec.{eqb}
 use lib.ListN.{length, take}
 use Rattle.format.specs.declared.IndexRecordOption.{IndexRecordOption}
-use Rattle.format.specs.Basics.{Outcome, ok, refused, andThen, ask, putAt, fitsAt}
+use Rattle.format.specs.Basics.{Outcome, ok, refused, andThen, ask, putAt, fitsAt, AllBelow}
 use Rattle.format.specs.Refusal.{noRoom, countMismatch, stateBroken}
 use Rattle.format.specs.Values.{rising, countable}
 use Rattle.format.specs.Written.{Parts, headed, image}
 use Rattle.format.specs.Accepted.{keptIn, begin, takeDoc, takeDocs, written}
-use Rattle.format.proofs.Lists.{AllBelow}
 use Rattle.format.proofs.Outcome.{refused≢ok, andThen-ok}
 use Rattle.format.proofs.Opened.{image-is}
 use Rattle.format.proofs.Accepted.{written-ok}

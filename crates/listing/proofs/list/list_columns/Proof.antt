@@ -7,8 +7,9 @@ use native.Mathlib.Omega.{arith}
 use denote.Ref.{now}
 use lib.ListN.{length}
 use lib.Seq.{length-take-le}
+use Rattle.format.specs.Basics.{AllBelow}
 use Rattle.format.proofs.Area.{length-putAt}
-use Rattle.format.proofs.Lists.{AllBelow, allBelow-of}
+use Rattle.format.proofs.Lists.{allBelow-of}
 use Rattle.serializer.specs.declared.Answer.the-variants.{Bytes}
 use Rattle.listing.proofs.Listed.{Wrote, wrote, wrote-none, listed-text}
 use borrow.Author.Needs.{needs}
