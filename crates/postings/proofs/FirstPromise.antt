@@ -10,7 +10,7 @@ use mathlib.Core.Bool.{Bool, true, false, not, _&&_ as and, _||_ as or, and-eq-t
 use mathlib.Core.List.{List, [], _∷_}
 use mathlib.Core.Logic.{_↔_}
 use mathlib.Core.Path.{_≡_, refl, sym, _∙_}
-use Prim.Native.Nat.{ℕ, _+_, _≤_, _^_}
+use Prim.Native.Nat.{ℕ, _+_, _≤_, _<_, _^_}
 use native.Mathlib.Omega.{arith}
 use borrow.Author.Tests.{le-leb, eq-eqb}
 use lib.Dec.{leb, ltb}
@@ -21,8 +21,7 @@ use Rattle.format.specs.SkipEntry.{hasFreq}
 use Rattle.format.specs.Values.{rising, countable}
 use Rattle.format.specs.Written.{image}
 use Rattle.format.specs.Accepted.{keptIn, begin, takeDoc, takeDocs, written, Accepted}
-use Rattle.format.specs.Reading.{reading, soundness}
-use Rattle.format.proofs.Opened.{soundness-is}
+use Rattle.format.specs.Reading.{soundness}
 use Rattle.format.proofs.Accepted.{written-ok}
 use Rattle.serializer.specs.declared.Answer.{Answer}
 use Rattle.serializer.specs.declared.Answer.the-variants.{Bytes, Refused}
@@ -31,6 +30,7 @@ use Rattle.serializer.specs.declared.Step.{Step}
 use Rattle.serializer.specs.Writer.{Areas, after, listing, closing}
 use Rattle.serializer.specs.Calls.{answered, Settled, Closed, Listed}
 use Rattle.serializer.proofs.Laws.WholeList.{HasRoom, whole-list-writes}
+use Rattle.segment_postings.proofs.Admission.AdmissionExact.{Meets, MeetsNone, admission-admits, admission-refuses}
 
 -- ---- accepted lists
 
@@ -111,10 +111,12 @@ module _ (mode : ℕ) (recording : Bool) (ds fs skips postings output : List ℕ
 
 -- ---- admitted images
 
--- `validate` answers 0 exactly where a walk over the whole image, frequencies requested, gets yes to questions 1 to 9
+-- what `validate` answers: 0 exactly where opening and a walk by `advance` over the whole image, frequencies requested, meet no refusal,
+-- and any other number exactly where that is the first refusal that they meet
 pub image-admitted : (mode count : ℕ) (bs : List ℕ) {r : ℕ} → r ≡ soundness mode count bs
-    → (r ≡ 0) ↔ (reading (record { mode = mode; requested = 1; count = count }) bs .refusal ≡ 0)
-image-admitted mode count bs e = (λ z. sym (soundness-is mode count bs) ∙ sym e ∙ z, λ z. e ∙ soundness-is mode count bs ∙ z)
+    → ((r ≡ 0) ↔ MeetsNone bs (record { mode = mode; requested = 1; count = count }))
+    × ((n : ℕ) → 0 < n → (r ≡ n) ↔ Meets bs (record { mode = mode; requested = 1; count = count }) n)
+image-admitted mode count bs e = rw e (admission-admits mode count bs, admission-refuses mode count bs)
 
 -- ---- refusals leave all as it was; those of the cursor are `refused-stays` in ThirdPromise.antt
 

@@ -1,6 +1,6 @@
 -- A call that does not leave the held block does not look at the image, beyond its length for question 16: on two images of the same
 -- length it answers the same and leaves the same cursor. A call that lands on a block looks besides at the bytes before the posting bytes
--- and at those of that block alone: segment_postings/proofs/LooksAt.antt `opens-by-the-first` of opening, `step-lands-on-one` and
+-- and at those of that block alone: segment_postings/proofs/Laws/LooksAt.antt `opens-by-the-first` of opening, `step-lands-on-one` and
 -- `seek-lands-on-one` of steps and seeks. So a bad block is refused only once it is landed on, whatever block it is. The fraud that
 -- document 01 names beside it, unpacking all at opening, would refuse at opening. Last, a lent cursor that came from no
 -- image, whose next block begins before the posting bytes.

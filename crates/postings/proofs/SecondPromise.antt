@@ -5,17 +5,18 @@
 -- the model answers of the list itself; ranks and totals are its counts and sums. The runs against the Rust are in differential/.
 -- Assumes nothing.
 use mathlib.Core.Bool.{Bool, _&&_ as and}
-use mathlib.Core.List.{List, _∷_, map}
+use mathlib.Core.List.{List, [], _∷_, map}
 use mathlib.Core.Path.{_≡_, sym, ap, _∙_}
-use Prim.Native.Nat.{ℕ, _+_, _≤_, _^_}
+use Prim.Native.Nat.{ℕ, _+_, _≤_, _<_, _^_}
 use native.Mathlib.Omega.{arith}
-use borrow.Author.Tests.{le-leb}
+use borrow.Author.Tests.{le-leb, lt-leb, eq-eqb}
 use lib.Dec.{ltb}
 use lib.ListN.{length, take}
 use lib.Seq.{take-append-le, take-length}
 use Rattle.format.specs.declared.Term.{Term}
-use Rattle.format.specs.Basics.{ok, choose, fitsAt, putAt, TERMINATED, AllBelow}
+use Rattle.format.specs.Basics.{Outcome, ok, refused, andThen, ask, choose, fitsAt, putAt, TERMINATED, AllBelow}
 use Rattle.format.specs.SkipEntry.{hasFreq}
+use Rattle.format.specs.Refusal.{targetTooLarge}
 use Rattle.format.specs.Written.{image}
 use Rattle.format.specs.Accepted.{keptIn}
 use Rattle.format.specs.Reading.{reading, soundness, docsOf, freqsOf}
@@ -23,6 +24,9 @@ use Rattle.format.specs.Counts.{total, idsBelow, sumBelow}
 use Rattle.format.specs.Model.{answers}
 use Rattle.format.specs.ReadsBack.{readFreqs, ReadsBack}
 use Rattle.format.proofs.Accepted.{written-ok}
+use Rattle.format.proofs.Blocks.{docs-many}
+use Rattle.format.proofs.Requested.{sound-requested}
+use Rattle.format.proofs.Sound.{sound-image, sound-blocks, whole-count}
 use Rattle.format.proofs.Totals.{total-below}
 use Rattle.serializer.specs.declared.Answer.the-variants.{Bytes}
 use Rattle.serializer.specs.Writer as writer
@@ -30,14 +34,16 @@ use Rattle.serializer.specs.Writer.{listing}
 use Rattle.serializer.specs.Calls.{Listed}
 use Rattle.serializer.proofs.Laws.WholeList.{whole-list-writes, whole-list-sound, whole-list-reads-back}
 use Rattle.segment_postings.specs.declared.Answer.{Answer}
-use Rattle.segment_postings.specs.declared.Moved.{Moved}
 use Rattle.segment_postings.specs.declared.SegmentPostings.{SegmentPostings}
-use Rattle.segment_postings.specs.Cursor.{opened, ranking}
-use Rattle.segment_postings.specs.Called.{shown}
-use Rattle.segment_postings.proofs.Simulation.RankCounts.{rank-ids}
-use Rattle.postings.specs.MixedCalls.{MadeCall, Called}
+use Rattle.segment_postings.specs.declared.Value.{Value}
+use Rattle.segment_postings.specs.Cursor.{ranking}
+use Rattle.segment_postings.specs.Calls.{orBefore, valued}
+use Rattle.segment_postings.specs.ReadWhole.{readWhole, WholeRead}
+use Rattle.segment_postings.specs.Called.{shown, valueNumbers}
+use Rattle.segment_postings.proofs.Simulation.RankCounts.{rank-ids, rank-refused}
+use Rattle.postings.specs.MixedCalls.{MadeCall, callsOf, Opened, Called}
 use Rattle.postings.proofs.FirstPromise.{bytes-answered}
-use Rattle.postings.proofs.ThirdPromise.{callsOf, third-promise}
+use Rattle.postings.proofs.ThirdPromise.{third-promise}
 
 put-front : (xs area : List ℕ) → length xs ≤ length area → take (length xs) (putAt 0 xs area) ≡ xs
 unfolding putAt choose fitsAt
@@ -74,21 +80,71 @@ module _ (mode : ℕ) (recording : Bool) (ds fs skips postings output : List ℕ
     written-reads-back = whole-list-reads-back mode recording ds fs skips postings output requested known small (written-image .0)
 
     -- every list of calls on the written image answers what the model answers of the list
-    pub written-answers : {first : Moved} → first ≡ opened (take n output′) term
-        → {made : List MadeCall} {told : List Answer} {c : SegmentPostings} → Called (take n output′) term (first .cursor) made told c
-        → map shown (first .answer ∷ told) ≡ answers ds freqsRead (callsOf made)
+    pub written-answers : {first : Answer} {begun : SegmentPostings} → Opened (take n output′) term first begun
+        → {made : List MadeCall} {told : List Answer} {c : SegmentPostings} → Called (take n output′) term begun made told c
+        → map shown (first ∷ told) ≡ answers ds freqsRead (callsOf made)
     written-answers opens later =
         let b = written-reads-back in
         rw (b .docs, b .freqs) at (third-promise (take n output′) term written-admitted known opens later .model-answers)
 
--- ---- ranks and totals on an admitted image
+-- ---- ranks and totals as numbers: 0 and the value, or a refusal's number and 0
 
-module _ (mode count : ℕ) (bs : List ℕ) (sound : soundness mode count bs ≡ 0) (target : ℕ) (most : target ≤ TERMINATED) where
-  -- `rank` counts the documents below the target
-  pub rank-counted : ranking mode count bs target ≡ ok (length (idsBelow target (docsOf (reading (record { mode = mode; requested = 1; count = count }) bs .blocks))))
-  rank-counted = rank-ids mode count bs target sound most
+module _ {r : Value} {o : Outcome ℕ} (answers : r ≡ valued o) {n : ℕ} where
+  told : o ≡ ok n → valueNumbers r ≡ 0 ∷ n ∷ []
+  unfolding valued valueNumbers
+  told e = rw (answers, e)
 
-  -- `total` sums their frequencies
-  pub total-sums : total mode count bs target
-      ≡ ok (sumBelow target (docsOf (reading (record { mode = mode; requested = 1; count = count }) bs .blocks)) (freqsOf (reading (record { mode = mode; requested = 1; count = count }) bs .blocks)))
-  total-sums = total-below mode count bs sound target most
+  told-refused : o ≡ refused n → valueNumbers r ≡ n ∷ 0 ∷ []
+  unfolding valued valueNumbers
+  told-refused e = rw (answers, e)
+
+total-refused : (mode count : ℕ) (bs : List ℕ) (target : ℕ) → TERMINATED < target → total mode count bs target ≡ refused targetTooLarge
+unfolding total ask
+total-refused mode count bs target above = rw (lt-leb target TERMINATED above)
+
+module _ (mode count : ℕ) (bs : List ℕ) (target : ℕ) where
+  -- frequencies requested
+  abbrev counted : Term
+  counted = record { mode = mode; requested = 1; count = count }
+
+  -- on an admitted image
+  module _ (sound : soundness mode count bs ≡ 0) (most : target ≤ TERMINATED) where
+    -- `rank` counts the documents below the target
+    pub rank-counted : {r : Value} → r ≡ valued (ranking mode count bs target)
+        → valueNumbers r ≡ 0 ∷ length (idsBelow target (docsOf (reading counted bs .blocks))) ∷ []
+    rank-counted answers = told answers (rank-ids mode count bs target sound most)
+
+    -- `total` sums their frequencies
+    pub total-sums : {r : Value} → r ≡ valued (total mode count bs target)
+        → valueNumbers r ≡ 0 ∷ sumBelow target (docsOf (reading counted bs .blocks)) (freqsOf (reading counted bs .blocks)) ∷ []
+    total-sums answers = told answers (total-below mode count bs sound target most)
+
+  -- a target above 2147483647 is 10, on every image
+  module _ (above : TERMINATED < target) where
+    pub rank-too-large : {r : Value} → r ≡ valued (ranking mode count bs target) → valueNumbers r ≡ 10 ∷ 0 ∷ []
+    rank-too-large answers = told-refused answers (rank-refused mode count bs target above)
+
+    pub total-too-large : {r : Value} → r ≡ valued (total mode count bs target) → valueNumbers r ≡ 10 ∷ 0 ∷ []
+    total-too-large answers = told-refused answers (total-refused mode count bs target above)
+
+-- ---- a whole list: `read` is lent an admitted image, and room in both slices
+
+module _ (t : Term) (bs docs freqs : List ℕ) (sound : soundness (t .mode) (t .count) bs ≡ 0) (known : t .requested ≤ 2)
+    (docs-fit : t .count ≤ length docs) (freqs-fit : t .count ≤ length freqs) where
+  read-is : readWhole t bs (length docs) (length freqs) ≡ ok (reading t bs .blocks)
+  unfolding readWhole ask
+  read-is =
+      rw (le-leb (t .count) (length docs) docs-fit, le-leb (t .count) (length freqs) freqs-fit, eq-eqb _ 0 sound, le-leb (t .requested) 2 known)
+
+  -- it answers the count, and leaves the documents and the frequencies that are read from the image at the front of the two
+  pub list-read : {docs′ freqs′ : List ℕ} {r : Value} → WholeRead (readWhole t bs (length docs) (length freqs)) docs freqs docs′ freqs′ r
+      → (valueNumbers r ≡ 0 ∷ t .count ∷ [])
+      × (docs′ ≡ putAt 0 (docsOf (reading t bs .blocks)) docs)
+      × (freqs′ ≡ putAt 0 (freqsOf (reading t bs .blocks)) freqs)
+  unfolding andThen orBefore
+  list-read k =
+      let blocks = sound-blocks (sound-image t bs (sound-requested (t .mode) (t .requested) (t .count) bs known sound)) in (
+        told (k .answer) (rw read-is (ap ok (docs-many blocks ∙ whole-count t))),
+        rw read-is at (k .docs-after),
+        rw read-is at (k .freqs-after),
+      )

@@ -1,8 +1,8 @@
 -- The size of the model's set is "the number of different blocks in which the position has been, opening included": the set holds no
 -- block twice, and a block is in it exactly where one of the model's positions lies in that block.
 -- Assumes nothing.
-use mathlib.Core.Bool.{Bool, true, false, not, _&&_ as and, _||_ as or}
-use mathlib.Core.List.{List, [], _∷_, map}
+use mathlib.Core.Bool.{Bool, true, false, _||_ as or}
+use mathlib.Core.List.{List, [], _∷_}
 use mathlib.Core.Path.{_≡_, refl, sym, _∙_}
 use Prim.Native.Nat.{ℕ, _/_, _+_, min}
 use borrow.Author.Tests.{eq-eqb, eqb-true}
@@ -13,15 +13,7 @@ use Rattle.format.specs.Counts.{countBelow}
 use Rattle.format.specs.Model.{Call, step, seek, State, member, visit, opened, moved, after, afterAll}
 use Rattle.format.proofs.Choice.{choose-elim}
 use Rattle.segment_postings.specs.Called.{positionsFrom, positions}
-
--- no number twice
-unfoldable pub distinct : List ℕ → Bool
-unfolding member
-distinct [] = true
-distinct (v ∷ vs) = and (not (member v vs)) (distinct vs)
-
-abbrev pub blocksOf : List ℕ → List ℕ
-blocksOf ps = map (λ p. p / 128) ps
+use Rattle.postings.specs.ThirdPromise.{distinct, blocksOf}
 
 -- ---- a block joins the set
 

@@ -1,2 +1,3 @@
 pub mod MixedCalls
 pub mod RunCalls
+pub mod ThirdPromise

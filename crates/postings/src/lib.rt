@@ -1,9 +1,12 @@
-// Posting lists: what a customer links. Every public call of the parts stands here under one name, `run_calls` beside them, and
-// `proofs/` holds the three promises of the order as theorems over all of them.
+// Posting lists: what a customer links. The calls that write, read, count and admit a list stand here under one name each, with
+// `run_calls` beside them; those on a short number, a packed block or a skip entry alone are the leaf crates' (`vint`, `bitpacking`, `skip`
+// and others). `proofs/` holds the three promises of the order as theorems over the calls that stand here.
 //
-// Every call is a plain function on numbers, slices and arrays. None demands anything of its caller, each returns on every input, and
-// the `ensures` beside it says the outcome on all inputs: the answer, and every byte of what is lent. A refusal answers the number of
-// the first question of document 01 that is answered no (`format` has a constant for each) and leaves everything lent as it was.
+// Every call is a plain function. Numbers and records (the writer's state, the cursor, a `Term`) go by value, and what a call makes of them
+// comes back beside its answer; bytes are lent as slices and a block's values as arrays; `advance_mut` and `seek_mut` are lent the
+// caller's record. None demands anything of its caller, each returns on every input, and the `ensures` beside it says the outcome on
+// all inputs: the answer, and every byte of what is lent. A refusal answers the number of the first question of document 01 that is
+// answered no (`format` has a constant for each) and leaves everything lent as it was.
 //
 // WRITING. One term's list of documents and frequencies becomes an image. A state goes from call to call; a full block and its entry
 // go into two lent areas, and closing puts the image into the output.
@@ -52,6 +55,8 @@
 //     match open_in(image, term, &mut docs, &mut freqs) { Reached::At(held) => .., Reached::Refused(why) => .. }
 //     match advance_in(held, image, term, &mut docs, &mut freqs) { Reached::At(held) => .., Reached::Refused(why) => .. }
 //     match seek_in(held, image, term, 300, &mut docs, &mut freqs) { Reached::At(held) => .., Reached::Refused(why) => .. }
+//
+// They answer where they came to, and `answer_at` what stands there, at the end 2147483647 and 0 as the other calls do:
 //
 //     match answer_at(held, term, &docs, &freqs) { Answer::At { doc, freq, unpacked, entries } => .., Answer::Refused(why) => .. }
 //
