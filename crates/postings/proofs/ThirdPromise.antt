@@ -48,9 +48,9 @@ use Rattle.postings.specs.MixedCalls.{Meets, handed-back, left-there, ca
 use Rattle.postings.specs.MixedCalls.{Code, steps, seeks, steps-lent, seeks-lent, Codes, ended, coded}
 use Rattle.postings.specs.RunCalls.{callOf, kindOf, allKnown, modelAnswers, Runs}
 use Rattle.postings.specs.ThirdPromise.{Promised}
-use Rattle.postings.proofs.Answered.{step-called, lent-step-called, seek-called}
-use Rattle.postings.proofs.ModelAnswers.{entry-most}
-use Rattle.postings.proofs.Ran.{all-taken}
+use Rattle.postings.proofs.calls.CodedCalls.{step-called, lent-step-called, seek-called}
+use Rattle.postings.proofs.calls.ModelAnswers.{entry-most}
+use Rattle.postings.proofs.calls.RunCases.{all-taken}
 use Rattle.postings.proofs.VisitedBlocks.{visited-blocks, visited-distinct}
 
 -- ---- a mixed list answers what its calls answer

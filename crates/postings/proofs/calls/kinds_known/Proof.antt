@@ -5,7 +5,7 @@ use Prim.Native.Nat.{_-_, _≤_}
 use native.Mathlib.Omega.{arith}
 use lib.ListN.{length, drop}
 use Rattle.postings.specs.RunCalls.{allKnown}
-use Rattle.postings.proofs.Answered.{known-on, known-not, known-none}
+use Rattle.postings.proofs.calls.CodedCalls.{known-on, known-not, known-none}
 use Rattle.postings.proofs.calls.kinds_known.Statement.{statement}
 use Rattle.postings.proofs.calls.kinds_known.Tie as tie
 

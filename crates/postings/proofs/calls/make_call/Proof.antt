@@ -1,7 +1,7 @@
 -- `postings::calls::make_call` meets its contract: each function that may be called meets the definition of the same call.
 -- Assumes nothing.
 use mathlib.Core.Path.{_∙_}
-use Rattle.postings.proofs.Answered.{makes-step, makes-lent-step, makes-seek}
+use Rattle.postings.proofs.calls.CodedCalls.{makes-step, makes-lent-step, makes-seek}
 use borrow.Author.Needs.{needs}
 use Rattle.postings.proofs.calls.make_call.Statement.{statement}
 use Rattle.postings.proofs.calls.make_call.Tie as tie

@@ -2,7 +2,7 @@
 -- Assumes nothing.
 use native.Mathlib.Omega.{arith}
 use lib.ListN.{length-set}
-use Rattle.postings.proofs.Answered.{five-stores}
+use Rattle.postings.proofs.calls.CodedCalls.{five-stores}
 use borrow.Author.Needs.{needs}
 use Rattle.postings.proofs.calls.put_numbers.Statement.{statement}
 use Rattle.postings.proofs.calls.put_numbers.Tie as tie

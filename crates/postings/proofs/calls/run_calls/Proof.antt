@@ -2,7 +2,7 @@
 -- Assumes nothing.
 use mathlib.Core.Path.{sym, _∙_}
 use borrow.Author.Tests.{not-true, not-false}
-use Rattle.postings.proofs.Ran.{run-no-room, run-unknown, run-refused, run-all}
+use Rattle.postings.proofs.calls.RunCases.{run-no-room, run-unknown, run-refused, run-all}
 use borrow.Author.Needs.{needs}
 use Rattle.postings.proofs.calls.run_calls.Statement.{statement}
 use Rattle.postings.proofs.calls.run_calls.Tie as tie

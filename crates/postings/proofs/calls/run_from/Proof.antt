@@ -8,7 +8,7 @@ use borrow.Author.Needs.{needs}
 use lib.ListN.{length}
 use Rattle.format.specs.Basics.{putAt}
 use Rattle.format.proofs.Area.{length-putAt}
-use Rattle.postings.proofs.Answered.{numbersFrom, written-on, written-all}
+use Rattle.postings.proofs.calls.CodedCalls.{numbersFrom, written-on, written-all}
 use Rattle.postings.proofs.calls.run_from.Statement.{statement}
 use Rattle.postings.proofs.calls.run_from.Tie as tie
 

@@ -16,8 +16,8 @@ use Rattle.segment_postings.specs.declared.Moved.{Moved}
 use Rattle.segment_postings.specs.Cursor.{opened}
 use Rattle.segment_postings.specs.Called.{callsFrom, numbers, allNumbers}
 use Rattle.postings.specs.RunCalls.{callOf, allKnown, taken, unlessRefused, answered, howMany, answersAfter, modelAnswers, Runs}
-use Rattle.postings.proofs.Answered.{five-numbers, all-numbers, as-many-answers}
-use Rattle.postings.proofs.ModelAnswers.{all-answered, answers-model, entries-full}
+use Rattle.postings.proofs.calls.CodedCalls.{five-numbers, all-numbers, as-many-answers}
+use Rattle.postings.proofs.calls.ModelAnswers.{all-answered, answers-model, entries-full}
 
 -- ---- what is taken
 

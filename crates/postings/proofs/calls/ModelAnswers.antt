@@ -19,7 +19,7 @@ use Rattle.segment_postings.specs.Cursor.{opened}
 use Rattle.segment_postings.specs.Called.{shown, callsFrom, calls, allNumbers, shownNumbers, positions, modelNumbers}
 use Rattle.segment_postings.proofs.Simulation.CallsSimulate.{calls-show, calls-numbers}
 use Rattle.postings.specs.RunCalls.{callOf, unlessRefused, answered, modelAnswers}
-use Rattle.postings.proofs.Answered.{as-many-answers}
+use Rattle.postings.proofs.calls.CodedCalls.{as-many-answers}
 
 -- ---- entries read
 

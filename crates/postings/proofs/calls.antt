@@ -1,0 +1,3 @@
+pub mod CodedCalls
+pub mod ModelAnswers
+pub mod RunCases
