@@ -2,5 +2,6 @@ pub mod FirstPromise
 pub mod SecondPromise
 pub mod StaysInBlock
 pub mod ThirdPromise
+mod ValueNumbers
 pub mod VisitedBlocks
 pub mod WorkedCalls

@@ -14,7 +14,7 @@ use lib.Dec.{ltb}
 use lib.ListN.{length, take}
 use lib.Seq.{take-append-le, take-length}
 use Rattle.format.specs.declared.Term.{Term}
-use Rattle.format.specs.Basics.{Outcome, ok, refused, andThen, ask, choose, fitsAt, putAt, TERMINATED, AllBelow}
+use Rattle.format.specs.Basics.{ok, refused, andThen, ask, choose, fitsAt, putAt, TERMINATED, AllBelow}
 use Rattle.format.specs.SkipEntry.{hasFreq}
 use Rattle.format.specs.Refusal.{targetTooLarge}
 use Rattle.format.specs.Written.{image}
@@ -44,6 +44,7 @@ use Rattle.segment_postings.proofs.Simulation.RankCounts.{rank-ids, rank-refuse
 use Rattle.postings.specs.MixedCalls.{MadeCall, callsOf, Opened, Called}
 use Rattle.postings.proofs.FirstPromise.{bytes-answered}
 use Rattle.postings.proofs.ThirdPromise.{third-promise}
+use Rattle.postings.proofs.ValueNumbers.{told, told-refused}
 
 put-front : (xs area : List ℕ) → length xs ≤ length area → take (length xs) (putAt 0 xs area) ≡ xs
 unfolding putAt choose fitsAt
@@ -88,15 +89,6 @@ module _ (mode : ℕ) (recording : Bool) (ds fs skips postings output : List ℕ
         rw (b .docs, b .freqs) at (third-promise (take n output′) term written-admitted known opens later .model-answers)
 
 -- ---- ranks and totals as numbers: 0 and the value, or a refusal's number and 0
-
-module _ {r : Value} {o : Outcome ℕ} (answers : r ≡ valued o) {n : ℕ} where
-  told : o ≡ ok n → valueNumbers r ≡ 0 ∷ n ∷ []
-  unfolding valued valueNumbers
-  told e = rw (answers, e)
-
-  told-refused : o ≡ refused n → valueNumbers r ≡ n ∷ 0 ∷ []
-  unfolding valued valueNumbers
-  told-refused e = rw (answers, e)
 
 total-refused : (mode count : ℕ) (bs : List ℕ) (target : ℕ) → TERMINATED < target → total mode count bs target ≡ refused targetTooLarge
 unfolding total ask

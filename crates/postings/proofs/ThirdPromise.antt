@@ -11,9 +11,9 @@
 --   each call. After a refusal the next call gets the same cursor again."
 --   "Where `doc` and `term_freq` are calls of their own, they give that document and that frequency."
 -- What the promise asks is specs/ThirdPromise.antt `Promised`, of the model. `third-promise` says all of it of one list: the answers, the
--- cursor after them, what `doc` and `term_freq` give there, and that the model's set, whose size is the count, is the set of the
--- different blocks in which its positions lie. `doc` and `term_freq` take the cursor by value and leave it, and every beginning of a list
--- is a list, so they may stand between any two calls.
+-- cursor after them, what `doc`, `term_freq` and `answer_at` give there, and that the model's set, whose size is the count, is the set of
+-- the different blocks in which its positions lie. Those three leave the cursor, and every beginning of a list is a list, so they may
+-- stand between any two calls.
 -- The argument: each function meets the definition of its call, whether the cursor goes by value, is lent, or lies in two lent arrays and
 -- numbers (segment_postings, CallsByValue.antt), so a mixed list answers what its calls answer (`called-are`); those answer what the model
 -- answers, and leave a cursor that holds the block of the model's position (segment_postings, CallsSimulate.antt); the set is
@@ -29,28 +29,31 @@ use lib.ListN.{length, getD}
 use Rattle.format.specs.declared.Term.{Term}
 use Rattle.format.specs.Basics.{Outcome, ok, refused, putAt}
 use Rattle.format.specs.Reading.{reading, soundness, docsOf, freqsOf}
-use Rattle.format.specs.Model.{Call, step, seek, answers}
+use Rattle.format.specs.Model.{Call, step, seek, here, answers}
 use Rattle.format.proofs.Requested.{sound-requested}
+use Rattle.format.proofs.Sound.{sound-image}
 use Rattle.segment_postings.specs.declared.Answer.{Answer}
 use Rattle.segment_postings.specs.declared.Answer.the-variants.{Refused}
 use Rattle.segment_postings.specs.declared.Held.{Held}
 use Rattle.segment_postings.specs.declared.Moved.{Moved}
 use Rattle.segment_postings.specs.declared.Reached.{Reached}
 use Rattle.segment_postings.specs.declared.SegmentPostings.{SegmentPostings}
-use Rattle.segment_postings.specs.Cursor.{moved, opened, stepping, seeking, advanced, sought}
+use Rattle.segment_postings.specs.Cursor.{answering, moved, opened, stepping, seeking, advanced, sought}
 use Rattle.segment_postings.specs.Calls.{cursorOf, Reaches}
-use Rattle.segment_postings.specs.Called.{called, callsFrom, calls, cursorAfter, positions, modelNumbers}
+use Rattle.segment_postings.specs.Called.{shown, called, callsFrom, calls, cursorAfter, positions, modelNumbers}
 use Rattle.segment_postings.proofs.Laws.CallsByValue.{SameCall, open-in-calls, advance-in-calls, seek-in-calls}
-use Rattle.segment_postings.proofs.Laws.LandingParts.{answerAt-at}
-use Rattle.segment_postings.proofs.Simulation.CallsSimulate.{calls-show, calls-count, calls-doc, calls-freq, calls-numbers}
+use Rattle.segment_postings.proofs.Laws.LandingParts.{answering-at, answerAt-at}
+use Rattle.segment_postings.proofs.Simulation.CallsSimulate.{calls-show, calls-stand, calls-count, calls-doc, calls-freq, calls-numbers}
+use Rattle.segment_postings.proofs.Simulation.StepSimulates.{answer-agrees}
 use Rattle.postings.specs.MixedCalls.{Manner, MadeCall, callsOf, Opened, handed-out, filled, unfilled, reaching}
 use Rattle.postings.specs.MixedCalls.{Meets, handed-back, left-there, came, stayed, Called, none, next}
 use Rattle.postings.specs.MixedCalls.{Code, steps, seeks, steps-lent, seeks-lent, Codes, ended, coded}
 use Rattle.postings.specs.RunCalls.{callOf, kindOf, allKnown, modelAnswers, Runs}
-use Rattle.postings.specs.ThirdPromise.{Promised}
+use Rattle.postings.specs.ThirdPromise.{stateAfter, Promised}
 use Rattle.postings.proofs.calls.CodedCalls.{step-called, lent-step-called, seek-called}
 use Rattle.postings.proofs.calls.ModelAnswers.{entry-most}
 use Rattle.postings.proofs.calls.RunCases.{all-taken}
+use Rattle.postings.proofs.ValueNumbers.{told}
 use Rattle.postings.proofs.VisitedBlocks.{visited-blocks, visited-distinct}
 
 -- ---- a mixed list answers what its calls answer
@@ -96,6 +99,14 @@ opened-are {bs} {t} (unfilled k) = gives (sym (open-in-calls bs t k .stayed refl
 
 -- ---- the promise
 
+-- what `answer_at` gives after the calls, as a call of its own
+calls-there : (t : Term) (bs : List ℕ) → reading t bs .refusal ≡ 0 → (cs : List Call)
+    → shown (answering t (cursorAfter bs t (opened bs t .cursor) cs))
+    ≡ here (docsOf (reading t bs .blocks)) (freqsOf (reading t bs .blocks)) (stateAfter bs t cs)
+calls-there t bs readable cs =
+    let k = calls-stand t bs readable cs in
+    ap shown (answering-at t (cursorAfter bs t (opened bs t .cursor) cs) (k .holds .place-most)) ∙ answer-agrees (sound-image t bs readable) k
+
 pub third-promise : (bs : List ℕ) (t : Term) → soundness (t .mode) (t .count) bs ≡ 0 → t .requested ≤ 2
     → {first : Answer} {begun : SegmentPostings} → Opened bs t first begun
     → {made : List MadeCall} {told : List Answer} {c : SegmentPostings} → Called bs t begun made told c
@@ -113,8 +124,9 @@ third-promise bs t sound known opens {made = made} later =
       model-entries = model-entries;
       entries-most = λ i. rw model-entries (entry-most (t .count) (answers docs (freqsOf (reading t bs .blocks)) (callsOf made)) (positions docs (callsOf made)) i);
       model-state = calls-count t bs readable (callsOf made);
-      model-doc = calls-doc t bs readable (callsOf made);
-      model-freq = calls-freq t bs readable (callsOf made);
+      model-doc = λ answers. told answers (calls-doc t bs readable (callsOf made));
+      model-freq = λ answers. told answers (calls-freq t bs readable (callsOf made));
+      model-there = λ answers. rw answers (calls-there t bs readable (callsOf made));
       visited-once = visited-distinct docs (callsOf made);
       visited-are = visited-blocks docs (callsOf made);
     })

@@ -8,15 +8,17 @@ use mathlib.Core.Path.{_≡_}
 use Prim.Native.Nat.{ℕ, _+_, _*_, _/_, _≤_}
 use lib.ListN.{getD}
 use Rattle.format.specs.declared.Term.{Term}
-use Rattle.format.specs.Basics.{ok, TERMINATED}
+use Rattle.format.specs.Basics.{TERMINATED}
 use Rattle.format.specs.Reading.{reading, docsOf, freqsOf}
-use Rattle.format.specs.Model.{Call, State, member, answers, afterAll}
+use Rattle.format.specs.Model.{Call, State, member, here, answers, afterAll}
 use Rattle.format.specs.Model as model
 use Rattle.segment_postings.specs.declared.Answer.{Answer}
 use Rattle.segment_postings.specs.declared.SegmentPostings.{SegmentPostings}
-use Rattle.segment_postings.specs.Cursor.{docAt, freqAt}
+use Rattle.segment_postings.specs.declared.Value.{Value}
+use Rattle.segment_postings.specs.Cursor.{answering, docAt, freqAt}
+use Rattle.segment_postings.specs.Calls.{valued}
 use Rattle.segment_postings.proofs.Simulation.CallsSimulate.{Counts}
-use Rattle.segment_postings.specs.Called.{shown, allNumbers, positions, modelNumbers}
+use Rattle.segment_postings.specs.Called.{shown, valueNumbers, allNumbers, positions, modelNumbers}
 
 -- no number twice
 unfoldable pub distinct : List ℕ → Bool
@@ -42,9 +44,14 @@ pub record Promised (bs : List ℕ) (t : Term) (cs : List Call) (told : List Ans
   pub entries-most : (i : ℕ) → getD (allNumbers told) (5 * i + 4) 0 ≤ t .count / 128
   -- and after the list the cursor is at the model's position, with as many blocks unpacked as the model has visited
   pub model-state : Counts t c (stateAfter bs t cs)
-  -- .. and `doc` and `term_freq` give the document and the frequency at that position, at the end TERMINATED and 0
-  pub model-doc : docAt c bs t ≡ ok (getD (docsOf (reading t bs .blocks)) (stateAfter bs t cs .position) TERMINATED)
-  pub model-freq : freqAt c bs t ≡ ok (getD (freqsOf (reading t bs .blocks)) (stateAfter bs t cs .position) 0)
+  -- .. `doc` and `term_freq` give the document and the frequency at that position, at the end TERMINATED and 0, and `answer_at` gives
+  -- both with the blocks unpacked
+  pub model-doc : {r : Value} → r ≡ valued (docAt c bs t)
+      → valueNumbers r ≡ 0 ∷ getD (docsOf (reading t bs .blocks)) (stateAfter bs t cs .position) TERMINATED ∷ []
+  pub model-freq : {r : Value} → r ≡ valued (freqAt c bs t)
+      → valueNumbers r ≡ 0 ∷ getD (freqsOf (reading t bs .blocks)) (stateAfter bs t cs .position) 0 ∷ []
+  pub model-there : {r : Answer} → r ≡ answering t c
+      → shown r ≡ here (docsOf (reading t bs .blocks)) (freqsOf (reading t bs .blocks)) (stateAfter bs t cs)
   -- the size of the model's set is the number of different blocks in which its positions lie: the set holds no block twice, and a block
   -- exactly where one of the positions, opening's included, lies in it
   pub visited-once : distinct (stateAfter bs t cs .visited) ≡ true
