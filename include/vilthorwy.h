@@ -67,8 +67,8 @@ uint64_t vilthorwy_write_docs(uint8_t mode, uint8_t record, const uint32_t *ids,
 uint64_t vilthorwy_validate(uint8_t mode, uint32_t count, const uint8_t *image, size_t image_len);
 
 /* All documents and frequencies, at the front of both slices, which have at least count places each. requested is 0 (frequencies read
- * as 1), 1 or 2, which reads as 1. Answers how many, the count. It asks 15 first, then what vilthorwy_validate asks, 1 to 9, then 1 of
- * the requested mode; a refusal changes nothing. */
+ * as 1), 1 or 2, which reads as 1. Answers how many, the count. It asks 1, of the requested mode too, then the rest of what
+ * vilthorwy_validate asks, 2 to 9, then 15; a refusal changes nothing. */
 uint64_t vilthorwy_read(uint8_t mode, uint8_t requested, uint32_t count, const uint8_t *image, size_t image_len, uint32_t *docs,
                         size_t docs_len, uint32_t *freqs, size_t freqs_len);
 

@@ -306,8 +306,9 @@ pub fn sound(image: &Image) -> Result<Vec<(u32, u32)>, u8> {
 }
 
 fn read(image: &Image, requested: u8, room: usize) -> Asked<Vec<(u32, u32)>> {
-    ask(image.count as usize <= room, 15)?;
+    ask(image.mode <= 1 && requested <= 2, 1)?;
     sound(image)?;
+    ask(image.count as usize <= room, 15)?;
     walk(image, requested)
 }
 

@@ -9,20 +9,20 @@ use lib.ListN.{length}
 use Rattle.format.specs.declared.Layout.{Layout}
 use Rattle.format.specs.declared.Term.{Term}
 use Rattle.format.specs.Basics.{Outcome, ok, andThen, ask, putAt}
-use Rattle.format.specs.Refusal.{noRoom, unknownMode}
+use Rattle.format.specs.Refusal.{noRoom}
 use Rattle.format.specs.Layout.{layout}
 use Rattle.format.specs.Reading.{Block, reading, soundness, docsOf, freqsOf}
 use Rattle.segment_postings.specs.declared.Value.{Value}
 use Rattle.segment_postings.specs.Calls.{orBefore, valued}
 
--- in turn: 15 where a slice is shorter than the count; what validation answers; 1 for an unknown requested mode; then the blocks
+-- in turn: 1 to 4, of the requested mode too; what validation answers, 1 to 9; 15 where a slice is shorter than the count; then the blocks
 unfoldable pub readWhole : Term → List ℕ → (docs-room freqs-room : ℕ) → Outcome (List Block)
-unfolding ask soundness reading
+unfolding andThen ask layout soundness reading
 readWhole t bs docs-room freqs-room =
     let number : ℕ = soundness (t .mode) (t .count) bs in
-    ask (and (leb (t .count) docs-room) (leb (t .count) freqs-room)) noRoom λ _.
+    andThen (layout t bs) λ _.
     ask (eqb number 0) number λ _.
-    ask (leb (t .requested) 2) unknownMode λ _.
+    ask (and (leb (t .count) docs-room) (leb (t .count) freqs-room)) noRoom λ _.
     ok (reading t bs .blocks)
 
 -- how many documents were read, and what both slices hold: theirs at the start, the rest as before; a refusal leaves both as they were

@@ -74,25 +74,25 @@ fn read_laid(image: &[u8], term: Term, layout: Layout, docs: &mut [u32], freqs: 
     }
 }
 
-// All documents and their frequencies, in order, at the start of both slices: how many. The room in the slices is asked first, then
-// whether the image is sound, then whether the requested mode is known; a refusal writes nothing.
+// All documents and their frequencies, in order, at the start of both slices: how many. Questions 1 to 9 are asked of the whole image,
+// 1 of the requested mode too, and 15 of both slices last; a refusal writes nothing.
 pub fn read(image: &[u8], term: Term, docs: &mut [u32], freqs: &mut [u32]) -> Value
     ensures { λ r. ⌜ WholeRead (readWhole term (now (image .entry)) (length (now (docs .entry))) (length (now (freqs .entry))))
         (now (docs .entry)) (now (freqs .entry)) (now (docs .exit)) (now (freqs .exit)) r ⌝ }
 {
-    let count = term.count as usize;
-    if docs.len() < count {
-        return Value::Refused(NO_ROOM);
-    }
-    if freqs.len() < count {
-        return Value::Refused(NO_ROOM);
-    }
-    let refusal = validate(image, term.mode, term.count);
-    if refusal != 0 {
-        return Value::Refused(refusal);
-    }
     match lay_out(image, term) {
         Laid::At(layout) => {
+            let refusal = validate(image, term.mode, term.count);
+            if refusal != 0 {
+                return Value::Refused(refusal);
+            }
+            let count = term.count as usize;
+            if docs.len() < count {
+                return Value::Refused(NO_ROOM);
+            }
+            if freqs.len() < count {
+                return Value::Refused(NO_ROOM);
+            }
             read_laid(image, term, layout, docs, freqs);
             Value::Is(count as u64)
         }

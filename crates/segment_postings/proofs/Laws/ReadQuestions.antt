@@ -1,5 +1,5 @@
--- The questions before a whole list is read, in turn: room, soundness, the requested mode. A sound image is sound in every known
--- requested mode, so that once its layout is found in the requested one, nothing is refused any more.
+-- The questions before a whole list is read, in turn: the layout in the requested mode, soundness, room. A sound image is sound in every
+-- known requested mode, so that once its layout is found in the requested one, the walk is refused nothing.
 -- Assumes nothing.
 use mathlib.Core.Bool.{_&&_ as and, and-false}
 use mathlib.Core.List.{List}
@@ -7,7 +7,7 @@ use mathlib.Core.Path.{_≡_, refl, sym, ap, _∙_}
 use Prim.Native.Nat.{ℕ, _≤_, _<_}
 use native.Mathlib.Decide.{decLe}
 use native.Mathlib.Omega.{arith}
-use borrow.Author.Tests.{leb-true, le-leb, lt-leb, eqb-true, eq-eqb, ne-eqb}
+use borrow.Author.Tests.{le-leb, lt-leb, eqb-true, eq-eqb, ne-eqb}
 use lib.Dec.{eqb, leb}
 use lib.ListN.{length}
 use Rattle.format.specs.declared.Layout.{Layout}
@@ -18,7 +18,7 @@ use Rattle.format.specs.Layout.{layout}
 use Rattle.format.specs.Reading.{Block, reading, soundness, docsOf}
 use Rattle.format.proofs.Blocks.{docs-many}
 use Rattle.format.proofs.Opened.{layout-is}
-use Rattle.format.proofs.Outcome.{refused≢ok, ok-same, ask-ok}
+use Rattle.format.proofs.Outcome.{refused≢ok, ok-same, ask-ok, andThen-ok}
 use Rattle.format.proofs.Requested.{sound-requested}
 use Rattle.format.proofs.Sound.{sound-image, sound-blocks, whole-count}
 use Rattle.segment_postings.specs.declared.Value.the-variants as value-as
@@ -32,54 +32,44 @@ mode-unknown : (t : Term) (bs : List ℕ) → 2 < t .requested → layout t bs �
 unfolding ask
 mode-unknown t bs h = rw (layout-is, lt-leb (t .requested) 2 h, and-false)
 
-module _ (t : Term) (bs : List ℕ) (sound : soundness (t .mode) (t .count) bs ≡ 0) where
-  known-sound : t .requested ≤ 2 → reading t bs .refusal ≡ 0
-  known-sound known = sound-requested (t .mode) (t .requested) (t .count) bs known sound
-
-  laid-known : {l : Layout} → layout t bs ≡ ok l → t .requested ≤ 2
-  laid-known e = elim (decLe (t .requested) 2) [
-    | yes known ↦ known
+module _ (t : Term) (bs : List ℕ) {l : Layout} (e : layout t bs ≡ ok l) where
+  known : t .requested ≤ 2
+  known = elim (decLe (t .requested) 2) [
+    | yes k ↦ k
     | no more ↦ absurd (refused≢ok (sym (mode-unknown t bs (omega arith)) ∙ e))
   ]
 
-  unlaid-unknown : {n : ℕ} → layout t bs ≡ refused n → (2 < t .requested) × (n ≡ unknownMode)
-  unlaid-unknown e = elim (decLe (t .requested) 2) [
-    | yes known ↦ absurd (refused≢ok (sym e ∙ sound-image t bs (known-sound known) .found))
-    | no more ↦ (omega arith, let is = mode-unknown t bs (omega arith) in cc)
-  ]
+  known-sound : soundness (t .mode) (t .count) bs ≡ 0 → reading t bs .refusal ≡ 0
+  known-sound sound = sound-requested (t .mode) (t .requested) (t .count) bs known sound
 
 -- ---- the questions
 
 module _ (t : Term) (bs : List ℕ) (docs-room freqs-room : ℕ) where
-  pub docs-short : docs-room < t .count → readWhole t bs docs-room freqs-room ≡ refused noRoom
-  unfolding readWhole ask
-  docs-short h = rw (lt-leb (t .count) docs-room h)
+  pub unlaid : {n : ℕ} → layout t bs ≡ refused n → readWhole t bs docs-room freqs-room ≡ refused n
+  unfolding readWhole andThen
+  unlaid e = rw e
 
-  pub freqs-short : freqs-room < t .count → readWhole t bs docs-room freqs-room ≡ refused noRoom
-  unfolding readWhole ask
-  freqs-short h = rw (lt-leb (t .count) freqs-room h, and-false)
-
-  module _ (docs-fit : t .count ≤ docs-room) (freqs-fit : t .count ≤ freqs-room) where
+  module _ {l : Layout} (e : layout t bs ≡ ok l) where
     pub unsound : {n : ℕ} → n ≡ soundness (t .mode) (t .count) bs → (n ≡ 0 → ⊥) → readWhole t bs docs-room freqs-room ≡ refused n
-    unfolding readWhole ask
-    unsound e h = rw (le-leb _ _ docs-fit, le-leb _ _ freqs-fit, ← e, ne-eqb _ _ h)
+    unfolding readWhole andThen ask
+    unsound is h = rw (e, ← is, ne-eqb _ _ h)
 
     module _ (sound : soundness (t .mode) (t .count) bs ≡ 0) where
-      pub unlaid : {n : ℕ} → layout t bs ≡ refused n → readWhole t bs docs-room freqs-room ≡ refused n
-      unfolding readWhole ask
-      unlaid e =
-          let u = unlaid-unknown t bs sound e in
-          rw (le-leb _ _ docs-fit, le-leb _ _ freqs-fit, eq-eqb _ _ sound, lt-leb (t .requested) 2 (u .0), u .1)
+      pub docs-short : docs-room < t .count → readWhole t bs docs-room freqs-room ≡ refused noRoom
+      unfolding readWhole andThen ask
+      docs-short h = rw (e, eq-eqb _ _ sound, lt-leb (t .count) docs-room h)
 
-      module _ {l : Layout} (e : layout t bs ≡ ok l) where
+      pub freqs-short : freqs-room < t .count → readWhole t bs docs-room freqs-room ≡ refused noRoom
+      unfolding readWhole andThen ask
+      freqs-short h = rw (e, eq-eqb _ _ sound, lt-leb (t .count) freqs-room h, and-false)
+
+      module _ (docs-fit : t .count ≤ docs-room) (freqs-fit : t .count ≤ freqs-room) where
         pub whole-walks : Walks t l bs docs-room freqs-room
-        whole-walks =
-            record { laid-out = e; sound = known-sound t bs sound (laid-known t bs sound e); docs-fit = docs-fit; freqs-fit = freqs-fit }
+        whole-walks = record { laid-out = e; sound = known-sound t bs e sound; docs-fit = docs-fit; freqs-fit = freqs-fit }
 
         pub whole-is : readWhole t bs docs-room freqs-room ≡ ok (reading t bs .blocks)
-        unfolding readWhole ask
-        whole-is =
-            rw (le-leb _ _ docs-fit, le-leb _ _ freqs-fit, eq-eqb _ _ sound, le-leb (t .requested) 2 (laid-known t bs sound e))
+        unfolding readWhole andThen ask
+        whole-is = rw (e, eq-eqb _ _ sound, le-leb _ _ docs-fit, le-leb _ _ freqs-fit)
 
 -- ---- the answers
 
@@ -107,9 +97,9 @@ whole-written t bs e sound w =
 
 module _ (t : Term) (bs : List ℕ) (docs-room freqs-room : ℕ) where
   readWhole-is : readWhole t bs docs-room freqs-room
-      ≡ (ask (and (leb (t .count) docs-room) (leb (t .count) freqs-room)) noRoom λ _.
+      ≡ (andThen (layout t bs) λ _.
       ask (eqb (soundness (t .mode) (t .count) bs) 0) (soundness (t .mode) (t .count) bs) λ _.
-      ask (leb (t .requested) 2) unknownMode λ _.
+      ask (and (leb (t .count) docs-room) (leb (t .count) freqs-room)) noRoom λ _.
       ok (reading t bs .blocks))
   unfolding readWhole
   readWhole-is = refl
@@ -118,10 +108,8 @@ module _ (t : Term) (bs : List ℕ) (docs-room freqs-room : ℕ) where
   pub read-many : {blocks : List Block} → readWhole t bs docs-room freqs-room ≡ ok blocks
       → (length (docsOf blocks) ≡ t .count) × (t .count ≤ TERMINATED)
   read-many e =
-      let room = ask-ok _ _ _ (sym readWhole-is ∙ e) in
-      let sound = ask-ok _ _ _ (room .1) in
-      let known = ask-ok _ _ _ (sound .1) in
-      let through = known-sound t bs (eqb-true _ _ (sound .0)) (leb-true _ _ (known .0)) in (
-        rw (← ok-same (known .1)) (whole-many t bs through),
-        count-most t bs (sound-image t bs through .found),
-      )
+      let laid = andThen-ok _ _ (sym readWhole-is ∙ e) in
+      let sound = ask-ok _ _ _ (laid .2) in
+      let room = ask-ok _ _ _ (sound .1) in
+      let through = known-sound t bs (laid .1) (eqb-true _ _ (sound .0)) in
+      (rw (← ok-same (room .1)) (whole-many t bs through), count-most t bs (laid .1))
