@@ -11,12 +11,14 @@ use lib.Seq.{drop-cons, drop-length}
 use borrow.Author.Tests.{eq-eqb, ne-eqb}
 use Rattle.format.specs.Basics.{Outcome, ok, refused, choose}
 use Rattle.format.specs.Refusal.{countMismatch}
-use Rattle.serializer.specs.declared.Answer.{Answer}
-use Rattle.serializer.specs.declared.Answer.the-variants.{Bytes, Refused}
+use Rattle.serializer.specs.declared.Accepted.the-variants.{Yes, Refused as No}
+use Rattle.serializer.specs.declared.ClosedTerm.{ClosedTerm}
 use Rattle.serializer.specs.declared.PostingsSerializer.{PostingsSerializer}
 use Rattle.serializer.specs.declared.Step.{Step}
+use Rattle.serializer.specs.declared.Written.{Written}
+use Rattle.serializer.specs.declared.Written.the-variants.{Refused}
 use Rattle.serializer.specs.Writer.{Areas, after, taking}
-use Rattle.serializer.specs.Calls.{answered, beginning, Settled, Closed}
+use Rattle.serializer.specs.Calls.{accepted, beginning, Settled, Closed}
 use Rattle.exports.specs.Exports.{coded, Run, Left, thenRun, runDocs, unlessRefused, closingLeft, endRun, docsLeft, Ran, Leaves, LeavesCoded}
 
 abbrev pub areasOf : PostingsSerializer → List ℕ → List ℕ → Areas
@@ -34,46 +36,46 @@ unfolding runDocs
 run-turn s ds fs skips postings i below below′ = rw (drop-cons ds i 0 below, drop-cons fs i 0 below′, add-one) refl
 
 -- a call that answers no refusal leads on from what it left
-settled-on : (o : Outcome Areas) (s : PostingsSerializer) (skips postings skips′ postings′ : List ℕ) (r : Step) (n : ℕ) (go : Areas → Run) →
-    Settled o s skips postings skips′ postings′ r → r .answer ≡ Bytes n →
+settled-on : (o : Outcome Areas) (s : PostingsSerializer) (skips postings skips′ postings′ : List ℕ) (r : Step) (go : Areas → Run) →
+    Settled o s skips postings skips′ postings′ r → r .answer ≡ Yes →
     thenRun o (areasOf s skips postings) go ≡ go (areasOf (r .state) skips′ postings′)
-unfolding thenRun answered after
-settled-on (ok a) s skips postings skips′ postings′ r n go h e = rw (h .state, h .skips-after, h .postings-after) refl
-settled-on (refused k) s skips postings skips′ postings′ r n go h e = let same = h .answer in let z : _≡_ {A = ℕ} 0 1 = cc in absurd (omega arith)
+unfolding thenRun accepted after
+settled-on (ok a) s skips postings skips′ postings′ r go h e = rw (h .state, h .skips-after, h .postings-after) refl
+settled-on (refused k) s skips postings skips′ postings′ r go h e = let same = h .answer in let z : _≡_ {A = ℕ} 0 1 = cc in absurd (omega arith)
 
 -- one that refuses ends the run
 settled-stop : (o : Outcome Areas) (s : PostingsSerializer) (skips postings skips′ postings′ : List ℕ) (r : Step) (n : ℕ) (go : Areas → Run) →
-    Settled o s skips postings skips′ postings′ r → r .answer ≡ Refused n →
+    Settled o s skips postings skips′ postings′ r → r .answer ≡ No n →
     Ran (thenRun o (areasOf s skips postings) go) skips′ postings′ (record { answer = r .answer; state = s })
-unfolding thenRun answered after
+unfolding thenRun accepted after
 settled-stop (ok a) s skips postings skips′ postings′ r n go h e = let same = h .answer in let z : _≡_ {A = ℕ} 0 1 = cc in absurd (omega arith)
 settled-stop (refused k) s skips postings skips′ postings′ r n go h e =
     record { answer = h .answer; state = refl; skips-after = h .skips-after; postings-after = h .postings-after }
 
 module _ (run : Run) (s : PostingsSerializer) (ds fs skips postings : List ℕ) (i : ℕ)
     (so-far : run ≡ onFrom ds fs i (areasOf s skips postings)) where
-  pub run-end : i ≡ length ds → Ran run skips postings (record { answer = Bytes 0; state = s })
+  pub run-end : i ≡ length ds → Ran run skips postings (record { answer = Yes; state = s })
   unfolding runDocs
   run-end all = rw (so-far, all, drop-length) (record { answer = refl; state = refl; skips-after = refl; postings-after = refl })
 
-  module _ (below : i < length ds) (as-many : length ds ≡ length fs) (skips′ postings′ : List ℕ) (r : Step) (n : ℕ)
+  module _ (below : i < length ds) (as-many : length ds ≡ length fs) (skips′ postings′ : List ℕ) (r : Step)
       (took : Settled (taking s (getD ds i 0) (getD fs i 0) skips postings) s skips postings skips′ postings′ r) where
-    pub run-on : r .answer ≡ Bytes n → run ≡ onFrom ds fs (i + 1) (areasOf (r .state) skips′ postings′)
-    run-on e = so-far ∙ run-turn s ds fs skips postings i below (omega arith) ∙ settled-on _ s skips postings skips′ postings′ r n _ took e
+    pub run-on : r .answer ≡ Yes → run ≡ onFrom ds fs (i + 1) (areasOf (r .state) skips′ postings′)
+    run-on e = so-far ∙ run-turn s ds fs skips postings i below (omega arith) ∙ settled-on _ s skips postings skips′ postings′ r _ took e
 
-    pub run-stop : r .answer ≡ Refused n → Ran run skips′ postings′ (record { answer = r .answer; state = s })
-    run-stop e = rw (so-far, run-turn s ds fs skips postings i below (omega arith)) (settled-stop _ s skips postings skips′ postings′ r n _ took e)
+    pub run-stop : {n : ℕ} → r .answer ≡ No n → Ran run skips′ postings′ (record { answer = r .answer; state = s })
+    run-stop e = rw (so-far, run-turn s ds fs skips postings i below (omega arith)) (settled-stop _ s skips postings skips′ postings′ r _ _ took e)
 
 -- ---- closing behind a run
 
-module _ (run : Run) (announced : ℕ) (output skips′ postings′ : List ℕ) (r : Step) (n : ℕ) (ran : Ran run skips′ postings′ r) where
-  pub end-stop : r .answer ≡ Refused n → Leaves (endRun run announced output) skips′ postings′ output (r .answer)
+module _ (run : Run) (announced : ℕ) (output skips′ postings′ : List ℕ) (r : Step) (ran : Ran run skips′ postings′ r) where
+  pub end-stop : {n : ℕ} → r .answer ≡ No n → Leaves (endRun run announced output) skips′ postings′ output (Refused n)
   unfolding endRun unlessRefused
   end-stop e =
       rw (sym (ran .answer) ∙ e)
-      (record { answer = e; skips-after = ran .skips-after; postings-after = ran .postings-after; output-after = refl })
+      (record { answer = refl; skips-after = ran .skips-after; postings-after = ran .postings-after; output-after = refl })
 
-  pub end-close : (output′ : List ℕ) (closed : Step) → r .answer ≡ Bytes n → Closed (r .state) announced skips′ postings′ output output′ closed →
+  pub end-close : (output′ : List ℕ) (closed : ClosedTerm) → r .answer ≡ Yes → Closed (r .state) announced skips′ postings′ output output′ closed →
       Leaves (endRun run announced output) skips′ postings′ output′ (closed .answer)
   unfolding endRun unlessRefused closingLeft
   end-close output′ closed e k =
@@ -86,13 +88,13 @@ abbrev pub untouched : ℕ → (skips postings output : List ℕ) → Left
 untouched n skips postings output = record { answer = Refused n; skips = skips; postings = postings; output = output }
 
 module _ (mode : ℕ) (recording : Bool) (ds fs : List ℕ) (announced : ℕ) (skips postings output : List ℕ) where
-  module _ (begun : Step) (begins : begun ≡ beginning mode recording) (n : ℕ) where
-    pub docs-refused : begun .answer ≡ Refused n →
+  module _ (begun : Step) (begins : begun ≡ beginning mode recording) where
+    pub docs-refused : {n : ℕ} → begun .answer ≡ No n →
         docsLeft mode recording ds fs announced skips postings output ≡ untouched n skips postings output
     unfolding docsLeft unlessRefused
     docs-refused e = rw (← begins, e)
 
-    module _ (e : begun .answer ≡ Bytes n) where
+    module _ (e : begun .answer ≡ Yes) where
       pub docs-differ : (length ds ≡ length fs → ⊥) →
           docsLeft mode recording ds fs announced skips postings output ≡ untouched countMismatch skips postings output
       unfolding docsLeft choose unlessRefused
@@ -109,7 +111,7 @@ pub coded-refusal : (left : Left) (n : ℕ) (skips postings output : List ℕ) (
     LeavesCoded left skips postings output r
 coded-refusal left n skips postings output r e number = rw e (record { number = number; skips-after = refl; postings-after = refl; output-after = refl })
 
-pub coded-leaves : {left left′ : Left} {skips postings output : List ℕ} {a : Answer} {r : ℕ} → left′ ≡ left → Leaves left skips postings output a → r ≡ coded a →
+pub coded-leaves : {left left′ : Left} {skips postings output : List ℕ} {a : Written} {r : ℕ} → left′ ≡ left → Leaves left skips postings output a → r ≡ coded a →
     LeavesCoded left′ skips postings output r
 coded-leaves e h number =
     rw e (record { number = number ∙ ap coded (h .answer); skips-after = h .skips-after; postings-after = h .postings-after; output-after = h .output-after })

@@ -8,10 +8,12 @@ use lib.Dec.{eqb}
 use lib.ListN.{length}
 use Rattle.format.specs.Basics.{Outcome, ok, refused, choose, putAt}
 use Rattle.format.specs.Refusal.{countMismatch}
-use Rattle.serializer.specs.declared.Answer.{Answer}
-use Rattle.serializer.specs.declared.Answer.the-variants.{Bytes, Refused}
+use Rattle.serializer.specs.declared.Accepted.{Accepted}
+use Rattle.serializer.specs.declared.Accepted.the-variants.{Yes, Refused as No}
 use Rattle.serializer.specs.declared.PostingsSerializer.{PostingsSerializer}
 use Rattle.serializer.specs.declared.Step.{Step}
+use Rattle.serializer.specs.declared.Written.{Written}
+use Rattle.serializer.specs.declared.Written.the-variants.{Bytes, Refused}
 use Rattle.serializer.specs.Writer.{Areas, after, taking, closing}
 use Rattle.serializer.specs.Calls.{answered, beginning, Listed}
 
@@ -20,7 +22,7 @@ abbrev pub marked : ℕ → ℕ
 marked k = 2 ^ 63 + k
 
 -- a number of bytes, or a refusal's number with its mark
-unfoldable pub coded : Answer → ℕ
+unfoldable pub coded : Written → ℕ
 coded (Bytes n) = n
 coded (Refused k) = marked k
 
@@ -30,7 +32,7 @@ recorded n = not (eqb n 0)
 
 -- a whole list
 pub record ListCoded (mode recording : ℕ) (ds fs skips postings output skips′ postings′ output′ : List ℕ) (r : ℕ) : Type 0 where
-  pub answer : Answer
+  pub answer : Written
   pub listed : Listed mode (recorded recording) ds fs skips postings output skips′ postings′ output′ answer
   pub number : r ≡ coded answer
 
@@ -38,34 +40,34 @@ pub record ListCoded (mode recording : ℕ) (ds fs skips postings output skips�
 
 -- the answer of the last call, with the state and the areas as it left them
 pub record Run : Type 0 where
-  pub answer : Answer
+  pub answer : Accepted
   pub areas : Areas
 
 -- one document taken, and on with the areas after it; a refused one ends the run, and the areas stay as they were before it
 unfoldable pub thenRun : Outcome Areas → Areas → (Areas → Run) → Run
 thenRun (ok a) before go = go a
-thenRun (refused n) before go = record { answer = Refused n; areas = before }
+thenRun (refused n) before go = record { answer = No n; areas = before }
 
 -- the documents handed in one by one up to the first refusal: what the blocks finished before it wrote stays
 unfoldable pub runDocs : PostingsSerializer → (ds fs skips postings : List ℕ) → Run
 unfolding thenRun
-runDocs s [] fs skips postings = record { answer = Bytes 0; areas = record { state = s; skips = skips; postings = postings } }
-runDocs s (d ∷ ds) [] skips postings = record { answer = Refused countMismatch; areas = record { state = s; skips = skips; postings = postings } }
+runDocs s [] fs skips postings = record { answer = Yes; areas = record { state = s; skips = skips; postings = postings } }
+runDocs s (d ∷ ds) [] skips postings = record { answer = No countMismatch; areas = record { state = s; skips = skips; postings = postings } }
 runDocs s (d ∷ ds) (f ∷ fs) skips postings =
     thenRun (taking s d f skips postings) (record { state = s; skips = skips; postings = postings })
     λ a. runDocs (a .state) ds fs (a .skips) (a .postings)
 
 -- an answer with all that is lent after it
 pub record Left : Type 0 where
-  pub answer : Answer
+  pub answer : Written
   pub skips : List ℕ
   pub postings : List ℕ
   pub output : List ℕ
 
 -- on only where nothing was refused
-unfoldable pub unlessRefused : Answer → (ℕ → Left) → Left → Left
-unlessRefused (Bytes n) stop go = go
-unlessRefused (Refused n) stop go = stop n
+unfoldable pub unlessRefused : Accepted → (ℕ → Left) → Left → Left
+unlessRefused Yes stop go = go
+unlessRefused (No n) stop go = stop n
 
 -- closing
 unfoldable pub closingLeft : Areas → ℕ → List ℕ → Left
@@ -102,7 +104,7 @@ pub record Ran (run : Run) (skips′ postings′ : List ℕ) (r : Step) : Type 0
   pub postings-after : postings′ ≡ run .areas .postings
 
 -- .. and what a whole term leaves
-pub record Leaves (left : Left) (skips′ postings′ output′ : List ℕ) (r : Answer) : Type 0 where
+pub record Leaves (left : Left) (skips′ postings′ output′ : List ℕ) (r : Written) : Type 0 where
   pub answer : r ≡ left .answer
   pub skips-after : skips′ ≡ left .skips
   pub postings-after : postings′ ≡ left .postings

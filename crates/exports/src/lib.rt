@@ -6,9 +6,10 @@ mod reading;
 
 use crate::mark::mark;
 use format::COUNT_MISMATCH;
-use serializer::Answer;
+use serializer::Accepted;
 use serializer::PostingsSerializer;
 use serializer::Step;
+use serializer::Written;
 use serializer::close_term;
 use serializer::new_term;
 use serializer::write_doc;
@@ -18,12 +19,12 @@ ghost use lib.ListN.{length};
 ghost use Rattle.exports.specs.Exports.{coded, recorded, runDocs, endRun, docsLeft, ListCoded, Ran, Leaves, LeavesCoded};
 
 // A number of bytes as it is, and a refusal with its mark.
-fn code(answer: Answer) -> u64
+fn code(answer: Written) -> u64
     ensures { λ r. ⌜ r ≡ coded answer ⌝ }
 {
     match answer {
-        Answer::Bytes(n) => n as u64,
-        Answer::Refused(n) => mark(n),
+        Written::Bytes(n) => n as u64,
+        Written::Refused(n) => mark(n),
     }
 }
 
@@ -60,7 +61,7 @@ fn write_each(
     for i in 0..ids.len() {
         let step = write_doc(held, ids[i], freqs[i], skips, postings);
         let answer = step.answer;
-        let Answer::Bytes(_) = answer else {
+        let Accepted::Yes = answer else {
             return Step {
                 answer,
                 state: held,
@@ -69,7 +70,7 @@ fn write_each(
         held = step.state;
     }
     Step {
-        answer: Answer::Bytes(0),
+        answer: Accepted::Yes,
         state: held,
     }
 }
@@ -83,16 +84,16 @@ fn write_term(
     skips: &mut [u8],
     postings: &mut [u8],
     output: &mut [u8],
-) -> Answer
+) -> Written
     requires { ⌜ length (now ids) ≡ length (now freqs) ⌝ }
     ensures { λ r. ⌜ Leaves (endRun (runDocs state (now (ids .entry)) (now (freqs .entry)) (now (skips .entry)) (now (postings .entry)))
         announced (now (output .entry))) (now (skips .exit)) (now (postings .exit)) (now (output .exit)) r ⌝ }
 {
     let step = write_each(state, ids, freqs, skips, postings);
     let answer = step.answer;
-    let Answer::Bytes(_) = answer else {
-        return answer;
-    };
+    if let Accepted::Refused(n) = answer {
+        return Written::Refused(n);
+    }
     let closed = close_term(step.state, announced, skips, postings, output);
     closed.answer
 }
@@ -116,11 +117,11 @@ pub extern "C" fn vilthorwy_write_docs(
 {
     let begun = new_term(mode, recording != 0);
     let answer = begun.answer;
-    let Answer::Bytes(_) = answer else {
-        return code(answer);
-    };
+    if let Accepted::Refused(n) = answer {
+        return code(Written::Refused(n));
+    }
     if ids.len() != freqs.len() {
-        return code(Answer::Refused(COUNT_MISMATCH));
+        return code(Written::Refused(COUNT_MISMATCH));
     }
     code(write_term(begun.state, ids, freqs, announced, skips, postings, output))
 }

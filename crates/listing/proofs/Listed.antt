@@ -15,8 +15,8 @@ use Rattle.format.specs.Reading.{reading, docsOf, freqsOf}
 use Rattle.format.specs.ReadsBack.{readFreqs, ReadsBack}
 use Rattle.format.proofs.Area.{length-putAt}
 use Rattle.format.proofs.ReadsBack.{reads-back}
-use Rattle.serializer.specs.declared.Answer.{Answer}
-use Rattle.serializer.specs.declared.Answer.the-variants.{Bytes, Refused}
+use Rattle.serializer.specs.declared.Written.{Written}
+use Rattle.serializer.specs.declared.Written.the-variants.{Bytes, Refused}
 use Rattle.serializer.specs.Writer as writer
 use Rattle.serializer.specs.Calls.{answered, Listed}
 use Rattle.serializer.proofs.Laws.BlockPlaces.{put-front}
@@ -61,7 +61,7 @@ module _ (ds fs skips postings area : List ℕ) where
         back = rw (put-front bytes area room) (back-as ds fs small (p .0));
       })
 
-  module _ {skips′ postings′ area′ : List ℕ} {r : Answer} (few : length ds ≤ 16384) (small : AllBelow (2 ^ 32) fs)
+  module _ {skips′ postings′ area′ : List ℕ} {r : Written} (few : length ds ≤ 16384) (small : AllBelow (2 ^ 32) fs)
       (k : Listed 1 true ds fs skips postings area skips′ postings′ area′ r) where
     pub wrote : (n : ℕ) → r ≡ Bytes n → Wrote ds fs area′ n
     unfolding answered writer.after

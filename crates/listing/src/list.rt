@@ -7,7 +7,7 @@ use compression::area::put;
 use format::Term;
 use segment_postings::advance;
 use segment_postings::open;
-use serializer::Answer;
+use serializer::Written;
 use serializer::write_list;
 ghost use mathlib.Core.Path.{_≡_};
 ghost use Prim.Native.Nat.{_+_, _*_, _≤_};
@@ -81,7 +81,7 @@ fn list_columns(ids: &[u32], freqs: &[u32], output: &mut [u8]) -> usize
     let mut postings = postings_area();
     let mut image = image_area();
     match write_list(1, true, ids, freqs, &mut skips, &mut postings, &mut image) {
-        Answer::Bytes(size) => {
+        Written::Bytes(size) => {
             put(b"doc freq unpacked\n", output, 0);
             let term = Term {
                 mode: 1,
@@ -90,7 +90,7 @@ fn list_columns(ids: &[u32], freqs: &[u32], output: &mut [u8]) -> usize
             };
             put_steps(&image[..size], term, output, 18)
         }
-        Answer::Refused(_) => put_refusal(output),
+        Written::Refused(_) => put_refusal(output),
     }
 }
 

@@ -23,12 +23,14 @@ use Rattle.format.specs.Written.{image}
 use Rattle.format.specs.Accepted.{keptIn, begin, takeDoc, takeDocs, written, Accepted}
 use Rattle.format.specs.Reading.{soundness}
 use Rattle.format.proofs.Accepted.{written-ok}
-use Rattle.serializer.specs.declared.Answer.{Answer}
-use Rattle.serializer.specs.declared.Answer.the-variants.{Bytes, Refused}
+use Rattle.serializer.specs.declared.Accepted.the-variants.{Refused as No}
+use Rattle.serializer.specs.declared.ClosedTerm.{ClosedTerm}
 use Rattle.serializer.specs.declared.PostingsSerializer.{PostingsSerializer}
 use Rattle.serializer.specs.declared.Step.{Step}
+use Rattle.serializer.specs.declared.Written.{Written}
+use Rattle.serializer.specs.declared.Written.the-variants.{Bytes, Refused}
 use Rattle.serializer.specs.Writer.{Areas, after, listing, closing}
-use Rattle.serializer.specs.Calls.{answered, Settled, Closed, Listed}
+use Rattle.serializer.specs.Calls.{accepted, answered, Settled, Closed, Listed}
 use Rattle.serializer.proofs.Laws.WholeList.{HasRoom, whole-list-writes}
 use Rattle.segment_postings.proofs.Admission.AdmissionExact.{Meets, MeetsNone, admission-admits, admission-refuses}
 
@@ -81,6 +83,11 @@ unfolding answered
 refusal-answered bytes (ok a) e = absurd (let z : _≡_ {A = ℕ} 0 1 = cc in omega arith)
 refusal-answered bytes (refused m) e = cc
 
+not-accepted : {A : Type 0} (o : Outcome A) {n : ℕ} → accepted o ≡ No n → o ≡ refused n
+unfolding accepted
+not-accepted (ok a) e = absurd (let z : _≡_ {A = ℕ} 0 1 = cc in omega arith)
+not-accepted (refused m) e = cc
+
 module _ (mode : ℕ) (recording : Bool) (ds fs skips postings output : List ℕ) (small : AllBelow (2 ^ 32) fs) where
   -- what is asked of a list: a known mode, ids that rise strictly and stay below 2147483647, kept frequencies of at least 1, as many of
   -- the one as of the other, and room
@@ -101,7 +108,7 @@ module _ (mode : ℕ) (recording : Bool) (ds fs skips postings output : List ℕ
       (accepted-written mode recording ds fs (a .mode-known) (a .accepted), a .has-room)
 
   -- a list is accepted exactly then: `write_list` answers a number of bytes, and else a refusal
-  pub list-accepted : {skips′ postings′ output′ : List ℕ} {r : Answer} → Listed mode recording ds fs skips postings output skips′ postings′ output′ r
+  pub list-accepted : {skips′ postings′ output′ : List ℕ} {r : Written} → Listed mode recording ds fs skips postings output skips′ postings′ output′ r
       → ((n : ℕ) × (r ≡ Bytes n)) ↔ Acceptable
   unfolding answered
   list-accepted l = (
@@ -122,15 +129,15 @@ image-admitted mode count bs e = rw e (admission-admits mode count bs, admission
 
 -- a document, by `write_doc`
 pub refused-document : {o : Outcome Areas} {s : PostingsSerializer} {skips postings skips′ postings′ : List ℕ} {r : Step} {n : ℕ}
-    → Settled o s skips postings skips′ postings′ r → r .answer ≡ Refused n
+    → Settled o s skips postings skips′ postings′ r → r .answer ≡ No n
     → (r .state ≡ s) × (skips′ ≡ skips) × (postings′ ≡ postings)
 unfolding after
 refused-document {o} h e =
-    let no = refusal-answered (λ _. 0) o (sym (h .answer) ∙ e) in
+    let no = not-accepted o (sym (h .answer) ∙ e) in
     (rw no at (h .state), rw no at (h .skips-after), rw no at (h .postings-after))
 
 -- closing, by `close_term`
-pub refused-closing : (s : PostingsSerializer) (announced : ℕ) (skips postings output : List ℕ) {output′ : List ℕ} {r : Step} {n : ℕ}
+pub refused-closing : (s : PostingsSerializer) (announced : ℕ) (skips postings output : List ℕ) {output′ : List ℕ} {r : ClosedTerm} {n : ℕ}
     → Closed s announced skips postings output output′ r → r .answer ≡ Refused n → (r .state ≡ s) × (output′ ≡ output)
 unfolding after
 refused-closing s announced skips postings output h e =
@@ -138,7 +145,7 @@ refused-closing s announced skips postings output h e =
     (rw no at (h .state), rw no at (h .output-after))
 
 -- a whole list, by `write_list`
-pub refused-list : (mode : ℕ) (recording : Bool) (ds fs skips postings output : List ℕ) {skips′ postings′ output′ : List ℕ} {r : Answer} {n : ℕ}
+pub refused-list : (mode : ℕ) (recording : Bool) (ds fs skips postings output : List ℕ) {skips′ postings′ output′ : List ℕ} {r : Written} {n : ℕ}
     → Listed mode recording ds fs skips postings output skips′ postings′ output′ r → r ≡ Refused n
     → (skips′ ≡ skips) × (postings′ ≡ postings) × (output′ ≡ output)
 unfolding after

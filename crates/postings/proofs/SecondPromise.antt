@@ -28,7 +28,7 @@ use Rattle.format.proofs.Blocks.{docs-many}
 use Rattle.format.proofs.Requested.{sound-requested}
 use Rattle.format.proofs.Sound.{sound-image, sound-blocks, whole-count}
 use Rattle.format.proofs.Totals.{total-below}
-use Rattle.serializer.specs.declared.Answer.the-variants.{Bytes}
+use Rattle.serializer.specs.declared.Written.the-variants.{Bytes}
 use Rattle.serializer.specs.Writer as writer
 use Rattle.serializer.specs.Writer.{listing}
 use Rattle.serializer.specs.Calls.{Listed}

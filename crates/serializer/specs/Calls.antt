@@ -2,7 +2,7 @@
 -- Assumes nothing.
 use mathlib.Core.Path.{_≡_}
 use mathlib.Core.Bool.{Bool, _&&_ as and}
-use mathlib.Core.List.{List, _++_}
+use mathlib.Core.List.{List, [], _∷_, _++_}
 use Prim.Native.Nat.{ℕ, _+_, _/_}
 use lib.ListN.{length}
 use Rattle.format.specs.declared.IndexRecordOption.{IndexRecordOption}
@@ -11,27 +11,45 @@ use Rattle.format.specs.Refusal.{noRoom}
 use Rattle.format.specs.Written.{headed}
 use Rattle.format.specs.Accepted.{keptIn}
 use Rattle.serializer.specs.declared.PostingsSerializer.{PostingsSerializer}
-use Rattle.serializer.specs.declared.Answer.{Answer}
-use Rattle.serializer.specs.declared.Answer.the-variants.{Bytes, Refused}
+use Rattle.serializer.specs.declared.Accepted.{Accepted}
+use Rattle.serializer.specs.declared.Accepted.the-variants.{Yes, Refused as No}
+use Rattle.serializer.specs.declared.ClosedTerm.{ClosedTerm}
 use Rattle.serializer.specs.declared.Placed.{Placed}
 use Rattle.serializer.specs.declared.Placed.the-variants.{At, NoRoom}
 use Rattle.serializer.specs.declared.Step.{Step}
+use Rattle.serializer.specs.declared.Written.{Written}
+use Rattle.serializer.specs.declared.Written.the-variants.{Bytes, Refused}
 use Rattle.serializer.specs.Pieces.{tailWith}
 use Rattle.serializer.specs.Writer.{Areas, after, fresh, begun, taking, closing, listing, blocksOf, entryOf, blockOf}
 
--- what an outcome answers, given the number of bytes that a good one gives
-unfoldable pub answered : {A : Type 0} → (A → ℕ) → Outcome A → Answer
+-- what an outcome answers: of a call that gives no bytes ..
+unfoldable pub accepted : {A : Type 0} → Outcome A → Accepted
+accepted (ok a) = Yes
+accepted (refused n) = No n
+
+-- .. and of one that writes an image, given the number of bytes that a good outcome has
+unfoldable pub answered : {A : Type 0} → (A → ℕ) → Outcome A → Written
 answered bytes (ok a) = Bytes (bytes a)
 answered bytes (refused n) = Refused n
 
+-- document 01's number for each answer: 0 for yes, else the refusal's ..
+unfoldable pub acceptedNumber : Accepted → ℕ
+acceptedNumber Yes = 0
+acceptedNumber (No k) = k
+
+-- .. with the number of bytes behind it where an image is written, 0 where it is refused
+unfoldable pub writtenNumbers : Written → List ℕ
+writtenNumbers (Bytes n) = 0 ∷ n ∷ []
+writtenNumbers (Refused k) = k ∷ 0 ∷ []
+
 -- a term begins
 unfoldable pub beginning : ℕ → Bool → Step
-unfolding answered begun fresh
-beginning mode recording = record { answer = answered (λ n. n) (begun mode recording); state = fresh mode recording }
+unfolding accepted begun fresh
+beginning mode recording = record { answer = accepted (begun mode recording); state = fresh mode recording }
 
 -- what a call that may write into the areas answers and leaves; a refusal leaves all as it was
 pub record Settled (o : Outcome Areas) (s : PostingsSerializer) (skips postings skips′ postings′ : List ℕ) (r : Step) : Type 0 where
-  pub answer : r .answer ≡ answered (λ _. 0) o
+  pub answer : r .answer ≡ accepted o
   pub state : r .state ≡ after (λ a. a .state) o s
   pub skips-after : skips′ ≡ after (λ a. a .skips) o skips
   pub postings-after : postings′ ≡ after (λ a. a .postings) o postings
@@ -41,13 +59,13 @@ abbrev pub Took : PostingsSerializer → ℕ → ℕ → (skips postings skips�
 Took s d f skips postings skips′ postings′ r = Settled (taking s d f skips postings) s skips postings skips′ postings′ r
 
 -- closing: the image at the output's front, and a fresh state
-pub record Closed (s : PostingsSerializer) (announced : ℕ) (skips postings output output′ : List ℕ) (r : Step) : Type 0 where
+pub record Closed (s : PostingsSerializer) (announced : ℕ) (skips postings output output′ : List ℕ) (r : ClosedTerm) : Type 0 where
   pub answer : r .answer ≡ answered length (closing s announced skips postings output)
   pub state : r .state ≡ after (λ _. fresh (s .mode) (s .recording)) (closing s announced skips postings output) s
   pub output-after : output′ ≡ after (λ image. putAt 0 image output) (closing s announced skips postings output) output
 
 -- a whole list
-pub record Listed (mode : ℕ) (recording : Bool) (ds fs skips postings output skips′ postings′ output′ : List ℕ) (r : Answer) : Type 0 where
+pub record Listed (mode : ℕ) (recording : Bool) (ds fs skips postings output skips′ postings′ output′ : List ℕ) (r : Written) : Type 0 where
   pub answer : r ≡ answered length (listing mode recording ds fs skips postings output)
   pub skips-after :
       skips′
@@ -81,6 +99,6 @@ unfolding headed tailWith
 imageWith n skips postings option offset ds fs = headed n (record { skips = skips; postings = postings ++ tailWith option offset ds fs })
 
 -- .. at the front of the output, if it fits
-pub record ImagePut (image output output′ : List ℕ) (r : Answer) : Type 0 where
+pub record ImagePut (image output output′ : List ℕ) (r : Written) : Type 0 where
   pub answer : r ≡ choose (fitsAt 0 image output) (λ _. Bytes (length image)) (λ _. Refused noRoom)
   pub output-after : output′ ≡ putAt 0 image output

@@ -11,8 +11,8 @@ use Rattle.format.specs.Basics.{choose, lastOf, putAt, fitsAt}
 use Rattle.format.specs.Refusal.{noRoom}
 use Rattle.format.specs.Values.{rising}
 use Rattle.format.specs.Written.{Parts, image}
-use Rattle.serializer.specs.declared.Answer.{Answer}
-use Rattle.serializer.specs.declared.Answer.the-variants.{Bytes, Refused}
+use Rattle.serializer.specs.declared.Written.{Written}
+use Rattle.serializer.specs.declared.Written.the-variants.{Bytes, Refused}
 use Rattle.serializer.specs.Writer.{blocksOf}
 use Rattle.serializer.specs.Calls.{imageWith}
 
@@ -70,7 +70,7 @@ pub record BlocksPut (option : IndexRecordOption) (ds fs skips postings skips′
   pub postings-after : postings′ ≡ putAt 0 (fullBlocks option ds fs .postings) postings
 
 -- .. and the image into the output, where all of them fit
-pub record ListPut (option : IndexRecordOption) (ds fs skips postings output skips′ postings′ output′ : List ℕ) (r : Answer) : Type 0 where
+pub record ListPut (option : IndexRecordOption) (ds fs skips postings output skips′ postings′ output′ : List ℕ) (r : Written) : Type 0 where
   pub answer : r ≡ choose (listFits option ds fs skips postings (length output)) (λ _. Bytes (length (image option ds fs))) (λ _. Refused noRoom)
   pub skips-after :
       skips′ ≡ choose (listFits option ds fs skips postings (length output)) (λ _. putAt 0 (fullBlocks option ds fs .skips) skips) (λ _. skips)

@@ -1,6 +1,6 @@
 // One document more: what is asked of it, and what taking it does.
 
-use crate::Answer;
+use crate::Accepted;
 use crate::Placed;
 use crate::PostingsSerializer;
 use crate::Step;
@@ -26,7 +26,7 @@ ghost use Rattle.format.specs.Basics.{ok};
 ghost use Rattle.format.specs.Basics as basics;
 ghost use Rattle.format.specs.SkipEntry.{hasFreq};
 ghost use Rattle.format.specs.Values.{rising};
-ghost use Rattle.serializer.specs.Calls.{answered, Settled, Took};
+ghost use Rattle.serializer.specs.Calls.{accepted, Settled, Took};
 ghost use Rattle.serializer.specs.Pieces.{asking, emptied};
 ghost use Rattle.serializer.specs.Writer.{firstLeast, waitingDocs, leastAfter, stored, finished};
 
@@ -54,19 +54,19 @@ fn freq_counts(option: IndexRecordOption, freq: u32) -> bool
 }
 
 // Questions 11 to 13.
-fn ask_doc(option: IndexRecordOption, least: u64, doc: u32, freq: u32) -> Answer
-    ensures { λ r. ⌜ r ≡ answered (λ _. 0) (takeDoc option least doc freq) ⌝ }
+fn ask_doc(option: IndexRecordOption, least: u64, doc: u32, freq: u32) -> Accepted
+    ensures { λ r. ⌜ r ≡ accepted (takeDoc option least doc freq) ⌝ }
 {
     if TERMINATED <= doc {
-        return Answer::Refused(ID_TOO_LARGE);
+        return Accepted::Refused(ID_TOO_LARGE);
     }
     if (doc as u64) < least {
-        return Answer::Refused(ID_NOT_RISING);
+        return Accepted::Refused(ID_NOT_RISING);
     }
     if !freq_counts(option, freq) {
-        return Answer::Refused(FREQ_ZERO);
+        return Accepted::Refused(FREQ_ZERO);
     }
-    Answer::Bytes(0)
+    Accepted::Yes
 }
 
 // What is asked before a document is taken: 16, 11 to 13, and 16 where as many are taken as can be.
@@ -76,21 +76,21 @@ pub(crate) fn may_take(
     freq: u32,
     skips: usize,
     postings: usize,
-) -> Answer
-    ensures { λ r. ⌜ r ≡ answered (λ _. 0) (asking state doc freq skips postings) ⌝ }
+) -> Accepted
+    ensures { λ r. ⌜ r ≡ accepted (asking state doc freq skips postings) ⌝ }
 {
     if !in_bounds(state, skips, postings) {
-        return Answer::Refused(STATE_BROKEN);
+        return Accepted::Refused(STATE_BROKEN);
     }
     let option = record_option(state.mode, state.recording);
     let asked = ask_doc(option, next_least(state), doc, freq);
-    let Answer::Bytes(_) = asked else {
+    let Accepted::Yes = asked else {
         return asked;
     };
     if TERMINATED <= state.taken {
-        return Answer::Refused(STATE_BROKEN);
+        return Accepted::Refused(STATE_BROKEN);
     }
-    Answer::Bytes(0)
+    Accepted::Yes
 }
 
 // The state with the document waiting.
@@ -171,12 +171,12 @@ fn finish(
     } = placed
     else {
         return Step {
-            answer: Answer::Refused(NO_ROOM),
+            answer: Accepted::Refused(NO_ROOM),
             state,
         };
     };
     Step {
-        answer: Answer::Bytes(0),
+        answer: Accepted::Yes,
         state: without_block(full, skips_at, postings_at),
     }
 }
@@ -195,7 +195,7 @@ pub(crate) fn take(
     let next = with_doc(state, doc, freq);
     if state.waiting < 127 {
         return Step {
-            answer: Answer::Bytes(0),
+            answer: Accepted::Yes,
             state: next,
         };
     }

@@ -1,7 +1,7 @@
 // A term's image: the skip length and the entries where there is a full block, the blocks, and the tail, at the front of the output.
 
-use crate::Answer;
 use crate::PostingsSerializer;
+use crate::Written;
 use compression::area::put;
 use compression::area::within;
 use format::IndexRecordOption;
@@ -145,7 +145,7 @@ pub(crate) fn put_image(
     docs: &[u32],
     freqs: &[u32],
     output: &mut [u8],
-) -> Answer
+) -> Written
     ensures { λ r. ⌜ ImagePut (imageWith full (now (skips .entry)) (now (postings .entry)) option offset (now (docs .entry)) (now (freqs .entry)))
         (now (output .entry)) (now (output .exit)) r ⌝ }
 {
@@ -159,12 +159,12 @@ pub(crate) fn put_image(
         freqs,
         output.len(),
     ) {
-        return Answer::Refused(NO_ROOM);
+        return Written::Refused(NO_ROOM);
     }
     let postings_at = put_head(full, skips, output);
     let tail_at = behind(put(postings, output, postings_at));
     let end = put_tail(option, offset, docs, freqs, output, tail_at);
-    Answer::Bytes(end)
+    Written::Bytes(end)
 }
 
 // The id that a tail's first difference is taken from: the last block's last id, 0 where there is no block.
@@ -184,7 +184,7 @@ pub(crate) fn put_term(
     skips: &[u8],
     postings: &[u8],
     output: &mut [u8],
-) -> Answer
+) -> Written
     requires { ⌜ inBounds state (now skips) (now postings) ≡ true ⌝ }
     ensures { λ r. ⌜ ImagePut (imageOf state (now (skips .entry)) (now (postings .entry))) (now (output .entry)) (now (output .exit)) r ⌝ }
 {

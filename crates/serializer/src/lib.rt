@@ -35,15 +35,27 @@ pub struct PostingsSerializer {
     pub postings_at: usize,
 }
 
-// What a call answers: a number of bytes, 0 where it gives none; or the number of the question that was answered no.
-pub enum Answer {
+// What a call answers that gives no bytes: yes; or the number of the question that was answered no.
+pub enum Accepted {
+    Yes,
+    Refused(u8),
+}
+
+// What a call answers that writes an image: its length; or the number of the question that was answered no.
+pub enum Written {
     Bytes(usize),
     Refused(u8),
 }
 
-// An answer with the state after it.
+// Whether a term was begun or a document taken, with the state after it.
 pub struct Step {
-    pub answer: Answer,
+    pub answer: Accepted,
+    pub state: PostingsSerializer,
+}
+
+// What closing a term answers, with the state after it.
+pub struct ClosedTerm {
+    pub answer: Written,
     pub state: PostingsSerializer,
 }
 
@@ -79,12 +91,12 @@ pub fn new_term(mode: u8, recording: bool) -> Step
     let state = fresh(mode, recording);
     if 1 < mode {
         return Step {
-            answer: Answer::Refused(UNKNOWN_MODE),
+            answer: Accepted::Refused(UNKNOWN_MODE),
             state,
         };
     }
     Step {
-        answer: Answer::Bytes(0),
+        answer: Accepted::Yes,
         state,
     }
 }
@@ -100,7 +112,7 @@ pub fn write_doc(
     ensures { λ r. ⌜ Took state doc freq (now (skips .entry)) (now (postings .entry)) (now (skips .exit)) (now (postings .exit)) r ⌝ }
 {
     let asked = may_take(state, doc, freq, skips.len(), postings.len());
-    let Answer::Bytes(_) = asked else {
+    let Accepted::Yes = asked else {
         return Step {
             answer: asked,
             state,
@@ -116,26 +128,26 @@ pub fn close_term(
     skips: &[u8],
     postings: &[u8],
     output: &mut [u8],
-) -> Step
+) -> ClosedTerm
     ensures { λ r. ⌜ Closed state announced (now (skips .entry)) (now (postings .entry)) (now (output .entry)) (now (output .exit)) r ⌝ }
 {
     if !in_bounds(state, skips.len(), postings.len()) {
-        return Step {
-            answer: Answer::Refused(STATE_BROKEN),
+        return ClosedTerm {
+            answer: Written::Refused(STATE_BROKEN),
             state,
         };
     }
     if state.taken != announced {
-        return Step {
-            answer: Answer::Refused(COUNT_MISMATCH),
+        return ClosedTerm {
+            answer: Written::Refused(COUNT_MISMATCH),
             state,
         };
     }
     let put = put_term(state, skips, postings, output);
-    let Answer::Bytes(_) = put else {
-        return Step { answer: put, state };
+    let Written::Bytes(_) = put else {
+        return ClosedTerm { answer: put, state };
     };
-    Step {
+    ClosedTerm {
         answer: put,
         state: fresh(state.mode, state.recording),
     }

@@ -1,7 +1,8 @@
 // A whole list in one call. All questions are asked before a byte is written, so that a refusal leaves everything lent as it was.
 
-use crate::Answer;
+use crate::Accepted;
 use crate::Placed;
+use crate::Written;
 use crate::block::last_of;
 use crate::block::write_block;
 use crate::image::image_fits;
@@ -30,7 +31,7 @@ ghost use Rattle.format.specs.Bitpacking.{width};
 ghost use Rattle.format.specs.SkipEntry.{hasFreq, entrySize};
 ghost use Rattle.format.specs.Accepted.{takeDocs};
 ghost use Rattle.serializer.specs.Writer.{docValues, freqValues, blockOf};
-ghost use Rattle.serializer.specs.Calls.{answered, BlockWritten, ImagePut, Listed};
+ghost use Rattle.serializer.specs.Calls.{accepted, BlockWritten, ImagePut, Listed};
 ghost use Rattle.serializer.specs.Whole.{Checked, ListSized, BlockThere, PartsThere, fullBlocks, imageFrom, blocksFit, listFits, BlocksPut, ListPut};
 
 // The least frequency that question 13 lets pass.
@@ -44,26 +45,26 @@ fn least_freq(option: IndexRecordOption) -> u32
 }
 
 // Questions 11 to 13, document by document.
-fn check_docs(option: IndexRecordOption, ids: &[u32], freqs: &[u32]) -> Answer
+fn check_docs(option: IndexRecordOption, ids: &[u32], freqs: &[u32]) -> Accepted
     requires { ⌜ length (now ids) ≡ length (now freqs) ⌝ }
-    ensures { λ r. ⌜ r ≡ answered (λ _. 0) (takeDocs option 0 (now (ids .entry)) (now (freqs .entry))) ⌝ }
+    ensures { λ r. ⌜ r ≡ accepted (takeDocs option 0 (now (ids .entry)) (now (freqs .entry))) ⌝ }
 {
     let least_freq = least_freq(option);
     let mut least = 0u32;
     for i in 0..ids.len() {
         let doc = ids[i];
         if TERMINATED <= doc {
-            return Answer::Refused(ID_TOO_LARGE);
+            return Accepted::Refused(ID_TOO_LARGE);
         }
         if doc < least {
-            return Answer::Refused(ID_NOT_RISING);
+            return Accepted::Refused(ID_NOT_RISING);
         }
         if freqs[i] < least_freq {
-            return Answer::Refused(FREQ_ZERO);
+            return Accepted::Refused(FREQ_ZERO);
         }
         least = doc + 1;
     }
-    Answer::Bytes(0)
+    Accepted::Yes
 }
 
 // The 128 values from place `at` on.
@@ -247,7 +248,7 @@ fn put_list(
     skips: &[u8],
     postings: &[u8],
     output: &mut [u8],
-) -> Answer
+) -> Written
     requires { ⌜ PartsThere (now ids) (now freqs) entries size (now skips) (now postings) ⌝ }
     ensures { λ r. ⌜ ImagePut (imageFrom option (now (ids .entry)) (now (freqs .entry)) (take entries (now (skips .entry))) (take size (now (postings .entry))))
         (now (output .entry)) (now (output .exit)) r ⌝ }
@@ -274,7 +275,7 @@ fn write_checked(
     skips: &mut [u8],
     postings: &mut [u8],
     output: &mut [u8],
-) -> Answer
+) -> Written
     requires { ⌜ Checked (now ids) (now freqs) ⌝ }
     ensures { λ r. ⌜ ListPut option (now (ids .entry)) (now (freqs .entry)) (now (skips .entry)) (now (postings .entry)) (now (output .entry))
         (now (skips .exit)) (now (postings .exit)) (now (output .exit)) r ⌝ }
@@ -291,7 +292,7 @@ fn write_checked(
         postings,
         output.len(),
     ) {
-        return Answer::Refused(NO_ROOM);
+        return Written::Refused(NO_ROOM);
     }
     write_blocks(option, ids, freqs, skips, postings);
     put_list(option, ids, freqs, entries, size, skips, postings, output)
@@ -307,20 +308,20 @@ pub fn write_list(
     skips: &mut [u8],
     postings: &mut [u8],
     output: &mut [u8],
-) -> Answer
+) -> Written
     ensures { λ r. ⌜ Listed mode recording (now (ids .entry)) (now (freqs .entry)) (now (skips .entry)) (now (postings .entry)) (now (output .entry))
         (now (skips .exit)) (now (postings .exit)) (now (output .exit)) r ⌝ }
 {
     if 1 < mode {
-        return Answer::Refused(UNKNOWN_MODE);
+        return Written::Refused(UNKNOWN_MODE);
     }
     if ids.len() != freqs.len() {
-        return Answer::Refused(COUNT_MISMATCH);
+        return Written::Refused(COUNT_MISMATCH);
     }
     let option = record_option(mode, recording);
     let checked = check_docs(option, ids, freqs);
-    if let Answer::Refused(n) = checked {
-        return Answer::Refused(n);
+    if let Accepted::Refused(n) = checked {
+        return Written::Refused(n);
     }
     write_checked(option, ids, freqs, skips, postings, output)
 }

@@ -13,8 +13,8 @@ use lib.Seq.{take-at}
 use Rattle.format.specs.Accepted.{written}
 use Rattle.format.specs.Basics.{Outcome, ok, refused, choose, fitsAt, putAt}
 use Rattle.format.proofs.Area.{length-putAt}
-use Rattle.serializer.specs.declared.Answer.{Answer}
-use Rattle.serializer.specs.declared.Answer.the-variants.{Bytes, Refused}
+use Rattle.serializer.specs.declared.Written.{Written}
+use Rattle.serializer.specs.declared.Written.the-variants.{Bytes, Refused}
 use Rattle.serializer.specs.Calls.{answered, Listed}
 use Rattle.serializer.specs.Writer.{after, listing}
 use Rattle.serializer.proofs.Laws.WholeList.{whole-list-writes}
@@ -66,7 +66,7 @@ module _ (mode : ℕ) (recording : Bool) (ds fs image skips postings output : Li
   unfolding writesImage
   writesImage-is = refl
 
-  module _ (skips′ postings′ output′ : List ℕ) (r : Answer) (n : ℕ)
+  module _ (skips′ postings′ output′ : List ℕ) (r : Written) (n : ℕ)
       (h : Listed mode recording ds fs skips postings output skips′ postings′ output′ r) where
     pub image-refused : r ≡ Refused n → writesImage mode recording ds fs image skips postings output ≡ false
     image-refused e = writesImage-is ∙ no-image n _ image (sym (h .answer) ∙ e)

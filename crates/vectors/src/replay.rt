@@ -76,7 +76,7 @@ fn writes_into(
         (now (skips .entry)) (now (postings .entry)) (now (output .entry)) ⌝ }
 {
     let answer = write_list(mode, recording, ids, freqs, skips, postings, output);
-    let serializer::Answer::Bytes(n) = answer else {
+    let serializer::Written::Bytes(n) = answer else {
         return false;
     };
     same(&output[..n], image)

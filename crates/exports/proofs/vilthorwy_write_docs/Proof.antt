@@ -1,8 +1,7 @@
 -- `exports::vilthorwy_write_docs` meets its contract: an unknown mode is refused first, then slices of different length.
 -- Assumes nothing.
-use mathlib.Core.Path.{ap, _∙_}
 use borrow.Author.Needs.{needs}
-use Rattle.exports.specs.Exports.{coded, recorded}
+use Rattle.exports.specs.Exports.{recorded}
 use Rattle.exports.proofs.Runs.{docs-refused, docs-differ, docs-run, coded-refusal, coded-leaves}
 use Rattle.exports.proofs.vilthorwy_write_docs.Statement.{statement}
 use Rattle.exports.proofs.vilthorwy_write_docs.Tie as tie
@@ -10,23 +9,22 @@ use Rattle.exports.proofs.vilthorwy_write_docs.Tie as tie
 new-term-requires : tie.Need-new-term-requires
 new-term-requires c κs = search needs
 
-enum-told : tie.Need-enum-told
-enum-told c = search needs
-
-enum-told-2 : tie.Need-enum-told-2
-enum-told-2 c = search needs
+enum-known-answer : tie.Need-enum-known-answer
+enum-known-answer c = search needs
 
 code-requires : tie.Need-code-requires
 code-requires c κs = search needs
 
 returns : tie.Need-returns
 returns c =
-    let begun = c .before .before .before in
+    let begun = c .before .before .before .before in
     let a = begun .before .before .before .before .before .before .args in
-    let told = c .before .enum-told2 .given .1 in
     coded-refusal _ _ _ _ _ _
-    (docs-refused (a .mode) (recorded (a .recording)) _ _ (a .announced) _ _ _ _ (begun .new-term .ensures) _ told)
-    (c .code .ensures ∙ ap coded told)
+    (docs-refused (a .mode) (recorded (a .recording)) _ _ (a .announced) _ _ _ _ (begun .new-term .ensures) (c .before .before .answer .given .1))
+    (c .code .ensures)
+
+enum-told : tie.Need-enum-told
+enum-told c = search needs
 
 code-requires-2 : tie.Need-code-requires-2
 code-requires-2 c κs = search needs
@@ -37,7 +35,7 @@ returns-2 c =
     let begun = told .before .before in
     let a = begun .before .before .before .before .before .before .args in
     coded-refusal _ _ _ _ _ _
-    (docs-differ (a .mode) (recorded (a .recording)) _ _ (a .announced) _ _ _ _ (begun .new-term .ensures) _ (told .enum-told .given .1) (c .before .if1 .taken))
+    (docs-differ (a .mode) (recorded (a .recording)) _ _ (a .announced) _ _ _ _ (begun .new-term .ensures) (told .enum-told .given .1) (c .before .if1 .taken))
     (c .code2 .ensures)
 
 write-term-requires : tie.Need-write-term-requires
@@ -63,7 +61,7 @@ returns-3 c =
     let begun = told .before .before in
     let a = begun .before .before .before .before .before .before .args in
     coded-leaves
-    (docs-run (a .mode) (recorded (a .recording)) _ _ (a .announced) _ _ _ _ (begun .new-term .ensures) _ (told .enum-told .given .1) (same .if1 .left))
+    (docs-run (a .mode) (recorded (a .recording)) _ _ (a .announced) _ _ _ _ (begun .new-term .ensures) (told .enum-told .given .1) (same .if1 .left))
     (wrote .write-term .ensures) (c .code3 .ensures)
 
 pub vilthorwy-write-docs-spec : {M : Type 1} → statement M
@@ -71,10 +69,10 @@ vilthorwy-write-docs-spec =
     tie.close
     (tie.spec
     new-term-requires
-    enum-told
-    enum-told-2
+    enum-known-answer
     code-requires
     returns
+    enum-told
     code-requires-2
     returns-2
     write-term-requires

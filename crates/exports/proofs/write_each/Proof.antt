@@ -64,7 +64,7 @@ module _ (w : tie.After-write-doc Inv-loop μ-loop) where
 returns : tie.Need-returns Inv-loop μ-loop
 returns c =
     let w = c .before .before .before .before .before .before in
-    run-stop _ _ _ _ _ _ _ (head w .loop .inv .1) (below w) (start w .pre) _ _ _ _ (w .write-doc .ensures) (c .enum-told2 .given .1)
+    run-stop _ _ _ _ _ _ _ (head w .loop .inv .1) (below w) (start w .pre) _ _ _ (w .write-doc .ensures) (c .enum-told2 .given .1)
 
 add-i : tie.Need-add-i Inv-loop μ-loop
 add-i c = omega arith
@@ -76,7 +76,7 @@ loop-again : tie.Need-loop-again Inv-loop μ-loop
 loop-again c =
     let w = c .before .before .before .before .before .before .before in (
       omega arith,
-      run-on _ _ _ _ _ _ _ (head w .loop .inv .1) (below w) (start w .pre) _ _ _ _ (w .write-doc .ensures) (c .before .enum-told .given .1),
+      run-on _ _ _ _ _ _ _ (head w .loop .inv .1) (below w) (start w .pre) _ _ _ (w .write-doc .ensures) (c .before .enum-told .given .1),
       search needs,
       search needs,
     )

@@ -8,11 +8,8 @@ use Rattle.exports.proofs.write_term.Tie as tie
 write-each-requires : tie.Need-write-each-requires
 write-each-requires c κs = search needs
 
-enum-told : tie.Need-enum-told
-enum-told c = search needs
-
-enum-told-2 : tie.Need-enum-told-2
-enum-told-2 c = search needs
+enum-known-answer : tie.Need-enum-known-answer
+enum-known-answer c = search needs
 
 same-length : tie.Need-same-length
 same-length c = search needs
@@ -22,8 +19,11 @@ same-length-2 c = search needs
 
 returns : tie.Need-returns
 returns c =
-    let w = c .before .before .before .before .before .before in
-    end-stop _ _ _ _ _ _ _ (w .write-each .ensures) (c .enum-told2 .given .1)
+    let w = c .before .before .before .before .before .before .before in
+    end-stop _ _ _ _ _ _ (w .write-each .ensures) (c .before .answer .given .1)
+
+enum-told : tie.Need-enum-told
+enum-told c = search needs
 
 close-term-requires : tie.Need-close-term-requires
 close-term-requires c κs = search needs
@@ -42,18 +42,18 @@ returns-2 c =
     let closed = c .before .before in
     let told = closed .before .before .before .before in
     let w = told .before .before .before .before .before .before in
-    end-close _ _ _ _ _ _ _ (w .write-each .ensures) _ _ (told .enum-told .given .1) (closed .close-term .ensures)
+    end-close _ _ _ _ _ _ (w .write-each .ensures) _ _ (told .enum-told .given .1) (closed .close-term .ensures)
 
 pub write-term-spec : {M : Type 1} → statement M
 write-term-spec =
     tie.close
     (tie.spec
     write-each-requires
-    enum-told
-    enum-told-2
+    enum-known-answer
     same-length
     same-length-2
     returns
+    enum-told
     close-term-requires
     same-length-3
     same-length-4

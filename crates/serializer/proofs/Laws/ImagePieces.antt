@@ -20,7 +20,7 @@ use Rattle.format.specs.Values.{gapsFrom}
 use Rattle.format.specs.Vint.{vint, vints}
 use Rattle.format.specs.Written.{onlyIf, headed}
 use Rattle.format.proofs.Area.{putAt-nil, putAt-append, putAt-refused, nextAt-fits, length-putAt}
-use Rattle.serializer.specs.declared.Answer.the-variants.{Bytes, Refused}
+use Rattle.serializer.specs.declared.Written.the-variants.{Bytes, Refused}
 use Rattle.serializer.specs.Calls.{imageWith, ImagePut}
 use Rattle.serializer.specs.Pieces.{headOf, tailWith, placeOf, BytesPut}
 

@@ -19,11 +19,11 @@ use Rattle.format.specs.Accepted.{takeDoc}
 use Rattle.format.proofs.Outcome.{ask-ok, andThen-ok}
 use Rattle.format.proofs.Values.{rising-append, rising-last}
 use Rattle.serializer.specs.declared.PostingsSerializer.{PostingsSerializer}
-use Rattle.serializer.specs.declared.Answer.{Answer}
-use Rattle.serializer.specs.declared.Answer.the-variants.{Bytes, Refused}
+use Rattle.serializer.specs.declared.Accepted.{Accepted}
+use Rattle.serializer.specs.declared.Accepted.the-variants.{Yes, Refused}
 use Rattle.serializer.specs.declared.Placed.{Placed}
 use Rattle.serializer.specs.declared.Placed.the-variants.{At, NoRoom}
-use Rattle.serializer.specs.Calls.{answered, Settled, BlockWritten, blockFits}
+use Rattle.serializer.specs.Calls.{accepted, Settled, BlockWritten, blockFits}
 use Rattle.serializer.specs.Pieces.{asking, emptied}
 use Rattle.serializer.specs.Writer.{Areas, boundsHold, inBounds, optionOf, firstLeast, leastAfter, waitingDocs, after, stored, entryOf, blockOf, finished, taking}
 use Rattle.serializer.proofs.block.BlockPlaced.{last-at}
@@ -31,16 +31,16 @@ use Rattle.serializer.proofs.bounds.Question16.{few, waiting-rises}
 
 -- ---- what an answer says of its outcome
 
-module _ {A : Type 0} (bytes : A → ℕ) where
-  pub answered-bytes : (o : Outcome A) {r : Answer} {n : ℕ} → r ≡ answered bytes o → r ≡ Bytes n → (a : A) × (o ≡ ok a)
-  unfolding answered
-  answered-bytes (ok a) e told = (a, refl)
-  answered-bytes (refused k) e told = absurd (let z : _≡_ {A = ℕ} 0 1 = cc in omega arith)
+module _ {A : Type 0} where
+  pub accepted-yes : (o : Outcome A) {r : Accepted} → r ≡ accepted o → r ≡ Yes → (a : A) × (o ≡ ok a)
+  unfolding accepted
+  accepted-yes (ok a) e told = (a, refl)
+  accepted-yes (refused k) e told = absurd (let z : _≡_ {A = ℕ} 0 1 = cc in omega arith)
 
-  pub answered-refused : (o : Outcome A) {r : Answer} {n : ℕ} → r ≡ answered bytes o → r ≡ Refused n → o ≡ refused n
-  unfolding answered
-  answered-refused (ok a) e told = absurd (let z : _≡_ {A = ℕ} 0 1 = cc in omega arith)
-  answered-refused (refused k) e told = cc
+  pub accepted-refused : (o : Outcome A) {r : Accepted} {n : ℕ} → r ≡ accepted o → r ≡ Refused n → o ≡ refused n
+  unfolding accepted
+  accepted-refused (ok a) e told = absurd (let z : _≡_ {A = ℕ} 0 1 = cc in omega arith)
+  accepted-refused (refused k) e told = cc
 
 -- ---- the least id that may come
 
@@ -195,12 +195,12 @@ had-room false p q e = absurd (let z : _≡_ {A = ℕ} 0 1 = cc in omega arith)
 
 pub settled-refused : (s : PostingsSerializer) (skips postings : List ℕ) {o : Outcome Areas} {n : ℕ} → o ≡ refused n
     → Settled o s skips postings skips postings (record { answer = Refused n; state = s })
-unfolding answered after
+unfolding accepted after
 settled-refused s skips postings e = record { answer = rw e; state = rw e; skips-after = rw e; postings-after = rw e }
 
 pub settled-ok : (s : PostingsSerializer) (skips postings : List ℕ) {o : Outcome Areas} {a : Areas} → o ≡ ok a
-    → Settled o s skips postings (a .skips) (a .postings) (record { answer = Bytes 0; state = a .state })
-unfolding answered after
+    → Settled o s skips postings (a .skips) (a .postings) (record { answer = Yes; state = a .state })
+unfolding accepted after
 settled-ok s skips postings e = record { answer = rw e; state = rw e; skips-after = rw e; postings-after = rw e }
 
 module _ (full : PostingsSerializer) (least : ℕ) (skips postings : List ℕ) where
@@ -234,7 +234,7 @@ module _ (full : PostingsSerializer) (least : ℕ) (skips postings : List ℕ) w
       rw (w .skips-after, w .postings-after, short) (settled-refused s skips postings (rw (finished-is, short)))
 
   pub finish-done : (s : PostingsSerializer) {skips′ postings′ : List ℕ} {p q : ℕ} → Written skips′ postings′ (At p q)
-      → Settled (finished full least skips postings) s skips postings skips′ postings′ (record { answer = Bytes 0; state = emptied full p q })
+      → Settled (finished full least skips postings) s skips postings skips′ postings′ (record { answer = Yes; state = emptied full p q })
   unfolding ask choose
   finish-done s w =
       let room = had-room fits _ _ (w .placed) in

@@ -12,7 +12,7 @@ use Rattle.format.specs.Refusal.{countMismatch, noRoom, stateBroken}
 use Rattle.format.specs.Values.{gaps, reduction, origin}
 use Rattle.format.proofs.Area.{putAt-refused}
 use Rattle.serializer.specs.declared.PostingsSerializer.{PostingsSerializer}
-use Rattle.serializer.specs.declared.Answer.the-variants.{Bytes, Refused}
+use Rattle.serializer.specs.declared.Written.the-variants.{Bytes, Refused}
 use Rattle.serializer.specs.Calls.{answered, imageWith, Closed, ImagePut}
 use Rattle.serializer.specs.Pieces.{tailWith}
 use Rattle.serializer.specs.Writer.{after, fresh, inBounds, optionOf, firstLeast, waitingDocs, waitingFreqs, tailOf, imageOf, closing}

@@ -14,8 +14,8 @@ use Rattle.format.specs.Refusal.{unknownMode, countMismatch, noRoom}
 use Rattle.format.specs.Written.{image}
 use Rattle.format.specs.Accepted.{keptIn, begin, takeDocs, written}
 use Rattle.format.proofs.Area.{length-putAt}
-use Rattle.serializer.specs.declared.Answer.{Answer}
-use Rattle.serializer.specs.declared.Answer.the-variants.{Bytes, Refused}
+use Rattle.serializer.specs.declared.Written.{Written}
+use Rattle.serializer.specs.declared.Written.the-variants.{Bytes, Refused}
 use Rattle.serializer.specs.Calls.{answered, ImagePut, Listed}
 use Rattle.serializer.specs.Whole.{ListSized, PartsThere, fullBlocks, imageFrom, blocksFit, listFits, BlocksPut, ListPut}
 use Rattle.serializer.specs.Writer.{after, listing}
@@ -122,7 +122,7 @@ module _ (option : IndexRecordOption) (ds fs skips postings output : List ℕ) w
           let all = blocks-room option ds fs skips postings blocks-fit in
           rw (blocks .skips-after, blocks .postings-after, sized .entries-are, sized .size-is, put-front _ skips (all .0), put-front _ postings (all .1), ← image-from)
 
-      pub put-all : {output′ : List ℕ} {r : Answer} → ImagePut (imageFrom option ds fs (take entries skips′) (take size postings′)) output output′ r
+      pub put-all : {output′ : List ℕ} {r : Written} → ImagePut (imageFrom option ds fs (take entries skips′) (take size postings′)) output output′ r
           → ListPut option ds fs skips postings output skips′ postings′ output′ r
       unfolding choose
       put-all p = record {
@@ -133,7 +133,7 @@ module _ (option : IndexRecordOption) (ds fs skips postings output : List ℕ) w
       }
 
 -- a list that passed questions 11 to 14 is listed as it is put
-pub listed-put : (mode : ℕ) (recording : Bool) (ds fs skips postings output : List ℕ) {skips′ postings′ output′ : List ℕ} {r : Answer}
+pub listed-put : (mode : ℕ) (recording : Bool) (ds fs skips postings output : List ℕ) {skips′ postings′ output′ : List ℕ} {r : Written}
     → listing mode recording ds fs skips postings output
     ≡ (ask (listFits (keptIn mode recording) ds fs skips postings (length output)) noRoom λ _. ok (image (keptIn mode recording) ds fs))
     → ListPut (keptIn mode recording) ds fs skips postings output skips′ postings′ output′ r

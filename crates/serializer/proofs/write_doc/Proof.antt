@@ -3,7 +3,7 @@
 use denote.Ref.{now}
 use lib.ListN.{length}
 use borrow.Author.Needs.{needs}
-use Rattle.serializer.proofs.document.TakeCases.{answered-bytes, answered-refused, asking-yes, taking-refused, settled-refused}
+use Rattle.serializer.proofs.document.TakeCases.{accepted-yes, accepted-refused, asking-yes, taking-refused, settled-refused}
 use Rattle.serializer.proofs.write_doc.Statement.{statement}
 use Rattle.serializer.proofs.write_doc.Tie as tie
 
@@ -21,7 +21,7 @@ returns c =
     let asked = c .before .before in
     let a = asked .before .before .before .args in
     let told = c .enum-told2 .given .1 in
-    let refusal = answered-refused _ _ (asked .may-take .ensures) told in
+    let refusal = accepted-refused _ (asked .may-take .ensures) told in
     rw told (settled-refused (a .state) (now (a .skips)) (now (a .postings))
     (taking-refused (a .state) (a .doc) (a .freq) (now (a .skips)) (now (a .postings)) refusal))
 
@@ -30,7 +30,7 @@ take-requires c κs =
     let told = c .before .before in
     let asked = told .before .before in
     let a = asked .before .before .before .args in
-    let may = answered-bytes _ _ (asked .may-take .ensures) (told .enum-told .given .1) in
+    let may = accepted-yes _ (asked .may-take .ensures) (told .enum-told .given .1) in
     asking-yes (a .state) (a .doc) (a .freq) (length (now (a .skips))) (length (now (a .postings))) (may .1)
 
 same-length : tie.Need-same-length

@@ -10,7 +10,7 @@ use lib.Seq.{length-take-le}
 use Rattle.format.specs.Basics.{AllBelow}
 use Rattle.format.proofs.Area.{length-putAt}
 use Rattle.format.proofs.Lists.{allBelow-of}
-use Rattle.serializer.specs.declared.Answer.the-variants.{Bytes}
+use Rattle.serializer.specs.declared.Written.the-variants.{Bytes}
 use Rattle.listing.proofs.Listed.{Wrote, wrote, wrote-none, listed-text}
 use borrow.Author.Needs.{needs}
 use Rattle.listing.proofs.list.list_columns.Statement.{statement}

@@ -5,10 +5,10 @@ use mathlib.Core.Bool.{true}
 use borrow.Author.Tests.{not-true, not-false}
 use borrow.Author.Needs.{needs}
 use Rattle.format.specs.Accepted.{takeDoc}
-use Rattle.serializer.specs.Calls.{answered}
+use Rattle.serializer.specs.Calls.{accepted}
 use Rattle.serializer.specs.Writer.{boundsHold, optionOf, firstLeast, leastAfter, waitingDocs}
 use Rattle.serializer.proofs.bounds.Question16.{few}
-use Rattle.serializer.proofs.document.TakeCases.{answered-bytes, answered-refused, asking-broken, asking-refused, asking-full, asking-ok}
+use Rattle.serializer.proofs.document.TakeCases.{accepted-yes, accepted-refused, asking-broken, asking-refused, asking-full, asking-ok}
 use Rattle.serializer.proofs.document.may_take.Statement.{statement}
 use Rattle.serializer.proofs.document.may_take.Tie as tie
 
@@ -20,12 +20,12 @@ holds c = sym (c .before .in-bounds .ensures) ∙ not-false _ (c .if1 .left)
 
 asked-is : (c : tie.After-ask-doc) → let a = c .before .before .before .before .before .args in
     c .ask-doc .result
-    ≡ answered (λ _. 0) (takeDoc (optionOf (a .state)) (leastAfter (firstLeast (a .state)) (waitingDocs (a .state))) (a .doc) (a .freq))
+    ≡ accepted (takeDoc (optionOf (a .state)) (leastAfter (firstLeast (a .state)) (waitingDocs (a .state))) (a .doc) (a .freq))
 unfolding optionOf
 asked-is c = c .ask-doc .ensures ∙ rw (c .before .next-least .ensures, c .before .before .record-option .ensures)
 
 returns : tie.Need-returns
-unfolding answered
+unfolding accepted
 returns c =
     let a = c .before .before .args in
     rw (asking-broken (a .state) (a .doc) (a .freq) (a .skips) (a .postings) (sym (c .before .in-bounds .ensures) ∙ not-true _ (c .if1 .taken)))
@@ -46,29 +46,29 @@ enum-told-2 : tie.Need-enum-told-2
 enum-told-2 c = search needs
 
 returns-2 : tie.Need-returns-2
-unfolding answered
+unfolding accepted
 returns-2 c =
     let asked = c .before .before in
     let start = asked .before .before .before .before .before in
     let a = start .args in
     let told = c .enum-told2 .given .1 in
-    let refusal = answered-refused _ _ (asked-is asked) told in
+    let refusal = accepted-refused _ (asked-is asked) told in
     told ∙ rw (asking-refused (a .state) (a .doc) (a .freq) (a .skips) (a .postings) (holds (asked .before .before .before)) refusal)
 
 returns-3 : tie.Need-returns-3
-unfolding answered
+unfolding accepted
 returns-3 c =
     let asked = c .before .before .before .before in
     let a = asked .before .before .before .before .before .args in
-    let yes-is = answered-bytes _ _ (asked-is asked) (c .before .before .enum-told .given .1) in
+    let yes-is = accepted-yes _ (asked-is asked) (c .before .before .enum-told .given .1) in
     rw (asking-full (a .state) (a .doc) (a .freq) (a .skips) (a .postings) (holds (asked .before .before .before)) (yes-is .1) (c .if2 .taken))
 
 returns-4 : tie.Need-returns-4
-unfolding answered
+unfolding accepted
 returns-4 c =
     let asked = c .before .before .before .before in
     let a = asked .before .before .before .before .before .args in
-    let yes-is = answered-bytes _ _ (asked-is asked) (c .before .before .enum-told .given .1) in
+    let yes-is = accepted-yes _ (asked-is asked) (c .before .before .enum-told .given .1) in
     rw (asking-ok (a .state) (a .doc) (a .freq) (a .skips) (a .postings) (holds (asked .before .before .before)) (yes-is .1) (c .if2 .left))
 
 pub may-take-spec : {M : Type 1} → statement M

@@ -8,7 +8,7 @@ use denote.Ref.{now}
 use borrow.Author.Needs.{needs}
 use lib.ListN.{length}
 use Rattle.format.specs.declared.IndexRecordOption.{IndexRecordOption}
-use Rattle.serializer.specs.Calls.{answered}
+use Rattle.serializer.specs.Calls.{accepted}
 use Rattle.serializer.proofs.list.CheckLoop.{Passes, Asked, asked-end, asked-next, too-large, not-rising, freq-zero}
 use Rattle.serializer.proofs.list.check_docs.Statement.{statement}
 use Rattle.serializer.proofs.list.check_docs.Tie as tie
@@ -44,16 +44,16 @@ module _ (h : tie.At-loop Inv-loop μ-loop) where
   asked = h .loop .inv .1 _ passes
 
 returns : tie.Need-returns Inv-loop μ-loop
-unfolding answered
+unfolding accepted
 returns c =
     let h = c .before .before .before in
-    ap (answered _) (sym (too-large _ _ _ _ _ (asked h) (start h .pre) (c .before .before .loop-test .taken) (c .if1 .taken)))
+    ap accepted (sym (too-large _ _ _ _ _ (asked h) (start h .pre) (c .before .before .loop-test .taken) (c .if1 .taken)))
 
 returns-2 : tie.Need-returns-2 Inv-loop μ-loop
-unfolding answered
+unfolding accepted
 returns-2 c =
     let h = c .before .before .before .before in
-    ap (answered _) (sym (not-rising _ _ _ _ _ (asked h) (start h .pre) (c .before .before .before .loop-test .taken) (c .before .if1 .left) (c .if2 .taken)))
+    ap accepted (sym (not-rising _ _ _ _ _ (asked h) (start h .pre) (c .before .before .before .loop-test .taken) (c .before .if1 .left) (c .if2 .taken)))
 
 mul-if3 : tie.Need-mul-if3 Inv-loop μ-loop
 mul-if3 c = omega arith
@@ -62,11 +62,11 @@ shared-slice-read-if3 : tie.Need-shared-slice-read-if3 Inv-loop μ-loop
 shared-slice-read-if3 c = omega arith
 
 returns-3 : tie.Need-returns-3 Inv-loop μ-loop
-unfolding answered
+unfolding accepted
 returns-3 c =
     let h = c .before .before .before .before .before .before in
     let test = c .before .before .before in
-    ap (answered _)
+    ap accepted
     (sym (freq-zero _ _ _ _ _ (asked h) (start h .pre) (test .before .before .loop-test .taken) _ (passes h) (test .if1 .left) (c .before .before .if2 .left) (c .if3 .taken)))
 
 add-least : tie.Need-add-least Inv-loop μ-loop
@@ -87,8 +87,8 @@ loop-again c =
     )
 
 returns-4 : tie.Need-returns-4 Inv-loop μ-loop
-unfolding answered
-returns-4 c = ap (answered _) (sym (asked-end _ _ _ _ _ (asked (c .before)) (c .loop-test .left)))
+unfolding accepted
+returns-4 c = ap accepted (sym (asked-end _ _ _ _ _ (asked (c .before)) (c .loop-test .left)))
 
 pub check-docs-spec : {M : Type 1} → statement M
 check-docs-spec =

@@ -6,12 +6,12 @@ use Prim.Native.Nat.{ℕ}
 use denote.Ref.{now}
 use Rattle.format.specs.Accepted.{keptIn, takeDocs}
 use Rattle.format.specs.Basics.{Outcome, ok}
-use Rattle.serializer.specs.declared.Answer.the-variants.{Bytes}
-use Rattle.serializer.specs.Calls.{answered}
+use Rattle.serializer.specs.declared.Accepted.the-variants.{Yes}
+use Rattle.serializer.specs.Calls.{accepted}
 use Rattle.serializer.proofs.list.CheckLoop.{taken-rises}
 use Rattle.serializer.proofs.list.ListCases.{listed-refused, mode-unknown, lengths-differ, docs-refused, docs-taken, listed-put}
 use borrow.Author.Needs.{needs}
-use Rattle.serializer.proofs.document.TakeCases.{answered-bytes, answered-refused}
+use Rattle.serializer.proofs.document.TakeCases.{accepted-yes, accepted-refused}
 use Rattle.serializer.proofs.list.write_list.Statement.{statement}
 use Rattle.serializer.proofs.list.write_list.Tie as tie
 
@@ -39,11 +39,11 @@ module _ (c : tie.After-check-docs) where
   abbrev docs : Outcome ℕ
   docs = takeDocs (keptIn (start .args .mode) (start .args .recording)) 0 (now (start .args .ids)) (now (start .args .freqs))
 
-  answer : c .check-docs .result ≡ answered (λ _. 0) docs
+  answer : c .check-docs .result ≡ accepted docs
   answer = rw (← c .before .record-option .ensures) (c .check-docs .ensures)
 
-  taken : {n : ℕ} → c .check-docs .result ≡ Bytes n → (next : ℕ) × (docs ≡ ok next)
-  taken e = answered-bytes (λ _. 0) docs answer e
+  taken : c .check-docs .result ≡ Yes → (next : ℕ) × (docs ≡ ok next)
+  taken e = accepted-yes docs answer e
 
 enum-known-checked : tie.Need-enum-known-checked
 enum-known-checked c = search needs
@@ -52,7 +52,7 @@ returns-3 : tie.Need-returns-3
 returns-3 c =
     let checked = c .before .before .before in
     let a = start checked .args in
-    let refusal = answered-refused (λ _. 0) (docs checked) (answer checked) (c .before .checked .given .1) in
+    let refusal = accepted-refused (docs checked) (answer checked) (c .before .checked .given .1) in
     listed-refused (a .mode) (a .recording) _ _ _ _ _
     (docs-refused _ _ _ _ _ _ _ (checked .before .before .before .if1 .left) (checked .before .before .if2 .left) refusal)
 
