@@ -11,11 +11,10 @@ use borrow.Author.Tests.{le-leb, lt-leb}
 use lib.ListN.{length, drop, getD, set, length-map, length-set, length-drop}
 use lib.Seq.{drop-cons, drop-length}
 use Rattle.format.specs.declared.Term.{Term}
-use Rattle.format.specs.Basics.{Outcome, ok, refused, choose, putAt}
+use Rattle.format.specs.Basics.{Outcome, ok, refused, choose, putAt, orBefore}
 use Rattle.format.proofs.Area.{putAt-nil, putAt-cons}
 use Rattle.segment_postings.specs.declared.Answer.the-variants.{At, Refused}
 use Rattle.segment_postings.specs.declared.SegmentPostings.{SegmentPostings}
-use Rattle.segment_postings.specs.Calls.{orBefore}
 use Rattle.segment_postings.specs.Cursor.{answering, opening, seeking}
 use Rattle.segment_postings.proofs.Laws.LandingParts.{answering-at, answerAt-at}
 use Rattle.bench.specs.Seeks.{thenSeeks, seeksFrom, seeks, servedIn, docOf, freqOf, docOn, freqOn, Served, Stored}

@@ -7,12 +7,11 @@ use Prim.Native.Nat.{ℕ, _<_}
 use lib.Dec.{leb}
 use lib.ListN.{length, set}
 use Rattle.format.specs.declared.Term.{Term}
-use Rattle.format.specs.Basics.{Outcome, ok, refused, choose, putAt}
+use Rattle.format.specs.Basics.{Outcome, ok, refused, choose, putAt, orBefore}
 use Rattle.segment_postings.specs.declared.Answer.{Answer}
 use Rattle.segment_postings.specs.declared.Answer.the-variants.{At, Refused}
 use Rattle.segment_postings.specs.declared.Held.{Held}
 use Rattle.segment_postings.specs.declared.SegmentPostings.{SegmentPostings}
-use Rattle.segment_postings.specs.Calls.{orBefore}
 use Rattle.segment_postings.specs.Cursor.{opening, seeking, answerAt}
 
 -- ---- the cursors

@@ -9,7 +9,7 @@ use native.Mathlib.Omega.{arith}
 use lib.ListN.{length, getD, drop}
 use lib.Seq.{drop-cons, drop-length}
 use borrow.Author.Tests.{eq-eqb, ne-eqb}
-use Rattle.format.specs.Basics.{Outcome, ok, refused, choose}
+use Rattle.format.specs.Basics.{Outcome, ok, refused, choose, orBefore}
 use Rattle.format.specs.Refusal.{countMismatch}
 use Rattle.serializer.specs.declared.Accepted.the-variants.{Yes, Refused as No}
 use Rattle.serializer.specs.declared.ClosedTerm.{ClosedTerm}
@@ -17,7 +17,7 @@ use Rattle.serializer.specs.declared.PostingsSerializer.{PostingsSerializer}
 use Rattle.serializer.specs.declared.Step.{Step}
 use Rattle.serializer.specs.declared.Written.{Written}
 use Rattle.serializer.specs.declared.Written.the-variants.{Refused}
-use Rattle.serializer.specs.Writer.{Areas, after, taking}
+use Rattle.serializer.specs.Writer.{Areas, taking}
 use Rattle.serializer.specs.Calls.{accepted, beginning, Settled, Closed}
 use Rattle.exports.specs.Exports.{coded, Run, Left, thenRun, runDocs, unlessRefused, closingLeft, endRun, docsLeft, Ran, Leaves, LeavesCoded}
 
@@ -39,7 +39,7 @@ run-turn s ds fs skips postings i below below′ = rw (drop-cons ds i 0 below, d
 settled-on : (o : Outcome Areas) (s : PostingsSerializer) (skips postings skips′ postings′ : List ℕ) (r : Step) (go : Areas → Run) →
     Settled o s skips postings skips′ postings′ r → r .answer ≡ Yes →
     thenRun o (areasOf s skips postings) go ≡ go (areasOf (r .state) skips′ postings′)
-unfolding thenRun accepted after
+unfolding thenRun accepted orBefore
 settled-on (ok a) s skips postings skips′ postings′ r go h e = rw (h .state, h .skips-after, h .postings-after) refl
 settled-on (refused k) s skips postings skips′ postings′ r go h e = let same = h .answer in let z : _≡_ {A = ℕ} 0 1 = cc in absurd (omega arith)
 
@@ -47,7 +47,7 @@ settled-on (refused k) s skips postings skips′ postings′ r go h e = let same
 settled-stop : (o : Outcome Areas) (s : PostingsSerializer) (skips postings skips′ postings′ : List ℕ) (r : Step) (n : ℕ) (go : Areas → Run) →
     Settled o s skips postings skips′ postings′ r → r .answer ≡ No n →
     Ran (thenRun o (areasOf s skips postings) go) skips′ postings′ (record { answer = r .answer; state = s })
-unfolding thenRun accepted after
+unfolding thenRun accepted orBefore
 settled-stop (ok a) s skips postings skips′ postings′ r n go h e = let same = h .answer in let z : _≡_ {A = ℕ} 0 1 = cc in absurd (omega arith)
 settled-stop (refused k) s skips postings skips′ postings′ r n go h e =
     record { answer = h .answer; state = refl; skips-after = h .skips-after; postings-after = h .postings-after }

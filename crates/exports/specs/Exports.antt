@@ -6,7 +6,7 @@ use mathlib.Core.List.{List, [], _∷_}
 use Prim.Native.Nat.{ℕ, _+_, _^_}
 use lib.Dec.{eqb}
 use lib.ListN.{length}
-use Rattle.format.specs.Basics.{Outcome, ok, refused, choose, putAt}
+use Rattle.format.specs.Basics.{Outcome, ok, refused, choose, putAt, orBefore}
 use Rattle.format.specs.Refusal.{countMismatch}
 use Rattle.serializer.specs.declared.Accepted.{Accepted}
 use Rattle.serializer.specs.declared.Accepted.the-variants.{Yes, Refused as No}
@@ -14,7 +14,7 @@ use Rattle.serializer.specs.declared.PostingsSerializer.{PostingsSerializer}
 use Rattle.serializer.specs.declared.Step.{Step}
 use Rattle.serializer.specs.declared.Written.{Written}
 use Rattle.serializer.specs.declared.Written.the-variants.{Bytes, Refused}
-use Rattle.serializer.specs.Writer.{Areas, after, taking, closing}
+use Rattle.serializer.specs.Writer.{Areas, taking, closing}
 use Rattle.serializer.specs.Calls.{answered, beginning, Listed}
 
 -- a refusal's number above 2 ^ 63, which no count, rank or total reaches (proofs/ToldApart.antt)
@@ -75,7 +75,7 @@ closingLeft a announced output = record {
   answer = answered length (closing (a .state) announced (a .skips) (a .postings) output);
   skips = a .skips;
   postings = a .postings;
-  output = after (λ image. putAt 0 image output) (closing (a .state) announced (a .skips) (a .postings) output) output;
+  output = orBefore (λ image. putAt 0 image output) (closing (a .state) announced (a .skips) (a .postings) output) output;
 }
 
 -- .. behind a run

@@ -27,6 +27,11 @@ unfoldable pub ask : {A : Type 0} → Bool → ℕ → (Bool → Outcome A) → 
 ask true n go = go true
 ask false n go = refused n
 
+-- what an outcome brings, or what stood there before
+unfoldable pub orBefore : {A B : Type 0} → (A → B) → Outcome A → B → B
+orBefore f (ok a) before = f a
+orBefore f (refused n) before = before
+
 -- one of two; the other isn't computed
 unfoldable pub choose : {A : Type 0} → Bool → (Bool → A) → (Bool → A) → A
 choose true a b = a true

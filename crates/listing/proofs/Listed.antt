@@ -8,7 +8,7 @@ use Prim.Native.Nat.{ℕ, _≤_, _<_, _^_}
 use native.Mathlib.Omega.{arith}
 use borrow.Author.Tests.{le-leb, lt-leb}
 use lib.ListN.{length, take}
-use Rattle.format.specs.Basics.{Outcome, ok, refused, choose, putAt, AllBelow}
+use Rattle.format.specs.Basics.{Outcome, ok, refused, choose, putAt, AllBelow, orBefore}
 use Rattle.format.specs.SkipEntry.{hasFreq}
 use Rattle.format.specs.Accepted.{keptIn, written}
 use Rattle.format.specs.Reading.{reading, docsOf, freqsOf}
@@ -64,7 +64,7 @@ module _ (ds fs skips postings area : List ℕ) where
   module _ {skips′ postings′ area′ : List ℕ} {r : Written} (few : length ds ≤ 16384) (small : AllBelow (2 ^ 32) fs)
       (k : Listed 1 true ds fs skips postings area skips′ postings′ area′ r) where
     pub wrote : (n : ℕ) → r ≡ Bytes n → Wrote ds fs area′ n
-    unfolding answered writer.after
+    unfolding answered orBefore
     wrote n e = go (writer.listing 1 true ds fs skips postings area) refl
       where
         go : (o : Outcome (List ℕ)) → writer.listing 1 true ds fs skips postings area ≡ o → Wrote ds fs area′ n

@@ -16,7 +16,7 @@ use borrow.Author.Tests.{le-leb, eq-eqb}
 use lib.Dec.{leb, ltb}
 use lib.ListN.{length}
 use Rattle.format.specs.declared.IndexRecordOption.{IndexRecordOption}
-use Rattle.format.specs.Basics.{Outcome, ok, refused, andThen, ask, TERMINATED, AllBelow}
+use Rattle.format.specs.Basics.{Outcome, ok, refused, andThen, ask, TERMINATED, AllBelow, orBefore}
 use Rattle.format.specs.SkipEntry.{hasFreq}
 use Rattle.format.specs.Values.{rising, countable}
 use Rattle.format.specs.Written.{image}
@@ -29,7 +29,7 @@ use Rattle.serializer.specs.declared.PostingsSerializer.{PostingsSerializer}
 use Rattle.serializer.specs.declared.Step.{Step}
 use Rattle.serializer.specs.declared.Written.{Written}
 use Rattle.serializer.specs.declared.Written.the-variants.{Bytes, Refused}
-use Rattle.serializer.specs.Writer.{Areas, after, listing, closing}
+use Rattle.serializer.specs.Writer.{Areas, listing, closing}
 use Rattle.serializer.specs.Calls.{accepted, answered, Settled, Closed, Listed}
 use Rattle.serializer.proofs.Laws.WholeList.{HasRoom, whole-list-writes}
 use Rattle.segment_postings.proofs.Admission.AdmissionExact.{Meets, MeetsNone, admission-admits, admission-refuses}
@@ -131,7 +131,7 @@ image-admitted mode count bs e = rw e (admission-admits mode count bs, admission
 pub refused-document : {o : Outcome Areas} {s : PostingsSerializer} {skips postings skips′ postings′ : List ℕ} {r : Step} {n : ℕ}
     → Settled o s skips postings skips′ postings′ r → r .answer ≡ No n
     → (r .state ≡ s) × (skips′ ≡ skips) × (postings′ ≡ postings)
-unfolding after
+unfolding orBefore
 refused-document {o} h e =
     let no = not-accepted o (sym (h .answer) ∙ e) in
     (rw no at (h .state), rw no at (h .skips-after), rw no at (h .postings-after))
@@ -139,7 +139,7 @@ refused-document {o} h e =
 -- closing, by `close_term`
 pub refused-closing : (s : PostingsSerializer) (announced : ℕ) (skips postings output : List ℕ) {output′ : List ℕ} {r : ClosedTerm} {n : ℕ}
     → Closed s announced skips postings output output′ r → r .answer ≡ Refused n → (r .state ≡ s) × (output′ ≡ output)
-unfolding after
+unfolding orBefore
 refused-closing s announced skips postings output h e =
     let no = refusal-answered length (closing s announced skips postings output) (sym (h .answer) ∙ e) in
     (rw no at (h .state), rw no at (h .output-after))
@@ -148,7 +148,7 @@ refused-closing s announced skips postings output h e =
 pub refused-list : (mode : ℕ) (recording : Bool) (ds fs skips postings output : List ℕ) {skips′ postings′ output′ : List ℕ} {r : Written} {n : ℕ}
     → Listed mode recording ds fs skips postings output skips′ postings′ output′ r → r ≡ Refused n
     → (skips′ ≡ skips) × (postings′ ≡ postings) × (output′ ≡ output)
-unfolding after
+unfolding orBefore
 refused-list mode recording ds fs skips postings output h e =
     let no = refusal-answered length (listing mode recording ds fs skips postings output) (sym (h .answer) ∙ e) in
     (rw no at (h .skips-after), rw no at (h .postings-after), rw no at (h .output-after))

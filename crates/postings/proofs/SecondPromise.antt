@@ -14,7 +14,7 @@ use lib.Dec.{ltb}
 use lib.ListN.{length, take}
 use lib.Seq.{take-append-le, take-length}
 use Rattle.format.specs.declared.Term.{Term}
-use Rattle.format.specs.Basics.{ok, refused, andThen, ask, choose, fitsAt, putAt, TERMINATED, AllBelow}
+use Rattle.format.specs.Basics.{ok, refused, andThen, ask, choose, fitsAt, putAt, orBefore, TERMINATED, AllBelow}
 use Rattle.format.specs.SkipEntry.{hasFreq}
 use Rattle.format.specs.Refusal.{targetTooLarge}
 use Rattle.format.specs.Written.{image}
@@ -29,7 +29,6 @@ use Rattle.format.proofs.Requested.{sound-requested}
 use Rattle.format.proofs.Sound.{sound-image, sound-blocks, whole-count}
 use Rattle.format.proofs.Totals.{total-below}
 use Rattle.serializer.specs.declared.Written.the-variants.{Bytes}
-use Rattle.serializer.specs.Writer as writer
 use Rattle.serializer.specs.Writer.{listing}
 use Rattle.serializer.specs.Calls.{Listed}
 use Rattle.serializer.proofs.Laws.WholeList.{whole-list-writes, whole-list-sound, whole-list-reads-back}
@@ -54,7 +53,7 @@ module _ (mode : ℕ) (recording : Bool) (ds fs skips postings output : List ℕ
     {skips′ postings′ output′ : List ℕ} {n : ℕ} (listed : Listed mode recording ds fs skips postings output skips′ postings′ output′ (Bytes n)) where
   -- the bytes written are the image
   written-image : (listing mode recording ds fs skips postings output ≡ ok (take n output′)) × (take n output′ ≡ image (keptIn mode recording) ds fs)
-  unfolding writer.after
+  unfolding orBefore
   written-image =
       let p = bytes-answered length (listing mode recording ds fs skips postings output) (sym (listed .answer)) in
       let room = whole-list-writes mode recording ds fs skips postings output .0 (p .1) in

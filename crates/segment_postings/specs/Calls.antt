@@ -9,7 +9,7 @@ use Rattle.format.specs.declared.Layout.{Layout}
 use Rattle.format.specs.declared.Term.{Term}
 use Rattle.format.specs.declared.VInt.{VInt}
 use Rattle.format.specs.declared.VInt.the-variants.{Number, Malformed}
-use Rattle.format.specs.Basics.{Outcome, ok, refused, andThen, choose, TERMINATED}
+use Rattle.format.specs.Basics.{Outcome, ok, refused, andThen, choose, orBefore, TERMINATED}
 use Rattle.format.specs.Vint.{skipLength}
 use Rattle.format.specs.SkipEntry.{blockSize}
 use Rattle.format.specs.Layout.{layout, fullBlocks}
@@ -77,11 +77,6 @@ searched (refused n) = search-as.Refused n
 unfoldable pub counted : ℕ → Outcome Block → Loaded
 counted unpacked (ok b) = loaded-as.Unpacked (unpacked + 1)
 counted unpacked (refused n) = loaded-as.Refused n
-
--- what an outcome brings, or what stood there before
-unfoldable pub orBefore : {A B : Type 0} → (A → B) → Outcome A → B → B
-orBefore f (ok a) before = f a
-orBefore f (refused n) before = before
 
 -- ---- what the functions below the calls want and leave
 

@@ -8,12 +8,12 @@ use lib.Dec.{eqb, leb}
 use lib.ListN.{length}
 use Rattle.format.specs.declared.Layout.{Layout}
 use Rattle.format.specs.declared.Term.{Term}
-use Rattle.format.specs.Basics.{Outcome, ok, andThen, ask, putAt}
+use Rattle.format.specs.Basics.{Outcome, ok, andThen, ask, putAt, orBefore}
 use Rattle.format.specs.Refusal.{noRoom}
 use Rattle.format.specs.Layout.{layout}
 use Rattle.format.specs.Reading.{Block, reading, soundness, docsOf, freqsOf}
 use Rattle.segment_postings.specs.declared.Value.{Value}
-use Rattle.segment_postings.specs.Calls.{orBefore, valued}
+use Rattle.segment_postings.specs.Calls.{valued}
 
 -- in turn: 1 to 4, of the requested mode too; what validation answers, 1 to 9; 15 where a slice is shorter than the count; then the blocks
 unfoldable pub readWhole : Term → List ℕ → (docs-room freqs-room : ℕ) → Outcome (List Block)

@@ -6,7 +6,7 @@ use mathlib.Core.List.{List, [], _∷_, _++_}
 use Prim.Native.Nat.{ℕ, _+_, _/_}
 use lib.ListN.{length}
 use Rattle.format.specs.declared.IndexRecordOption.{IndexRecordOption}
-use Rattle.format.specs.Basics.{Outcome, ok, refused, choose, putAt, fitsAt}
+use Rattle.format.specs.Basics.{Outcome, ok, refused, choose, putAt, fitsAt, orBefore}
 use Rattle.format.specs.Refusal.{noRoom}
 use Rattle.format.specs.Written.{headed}
 use Rattle.format.specs.Accepted.{keptIn}
@@ -20,7 +20,7 @@ use Rattle.serializer.specs.declared.Step.{Step}
 use Rattle.serializer.specs.declared.Written.{Written}
 use Rattle.serializer.specs.declared.Written.the-variants.{Bytes, Refused}
 use Rattle.serializer.specs.Pieces.{tailWith}
-use Rattle.serializer.specs.Writer.{Areas, after, fresh, begun, taking, closing, listing, blocksOf, entryOf, blockOf}
+use Rattle.serializer.specs.Writer.{Areas, fresh, begun, taking, closing, listing, blocksOf, entryOf, blockOf}
 
 -- what an outcome answers: of a call that gives no bytes ..
 unfoldable pub accepted : {A : Type 0} → Outcome A → Accepted
@@ -50,9 +50,9 @@ beginning mode recording = record { answer = accepted (begun mode recording); st
 -- what a call that may write into the areas answers and leaves; a refusal leaves all as it was
 pub record Settled (o : Outcome Areas) (s : PostingsSerializer) (skips postings skips′ postings′ : List ℕ) (r : Step) : Type 0 where
   pub answer : r .answer ≡ accepted o
-  pub state : r .state ≡ after (λ a. a .state) o s
-  pub skips-after : skips′ ≡ after (λ a. a .skips) o skips
-  pub postings-after : postings′ ≡ after (λ a. a .postings) o postings
+  pub state : r .state ≡ orBefore (λ a. a .state) o s
+  pub skips-after : skips′ ≡ orBefore (λ a. a .skips) o skips
+  pub postings-after : postings′ ≡ orBefore (λ a. a .postings) o postings
 
 -- one document more
 abbrev pub Took : PostingsSerializer → ℕ → ℕ → (skips postings skips′ postings′ : List ℕ) → Step → Type 0
@@ -61,21 +61,21 @@ Took s d f skips postings skips′ postings′ r = Settled (taking s d f skips p
 -- closing: the image at the output's front, and a fresh state
 pub record Closed (s : PostingsSerializer) (announced : ℕ) (skips postings output output′ : List ℕ) (r : ClosedTerm) : Type 0 where
   pub answer : r .answer ≡ answered length (closing s announced skips postings output)
-  pub state : r .state ≡ after (λ _. fresh (s .mode) (s .recording)) (closing s announced skips postings output) s
-  pub output-after : output′ ≡ after (λ image. putAt 0 image output) (closing s announced skips postings output) output
+  pub state : r .state ≡ orBefore (λ _. fresh (s .mode) (s .recording)) (closing s announced skips postings output) s
+  pub output-after : output′ ≡ orBefore (λ image. putAt 0 image output) (closing s announced skips postings output) output
 
 -- a whole list
 pub record Listed (mode : ℕ) (recording : Bool) (ds fs skips postings output skips′ postings′ output′ : List ℕ) (r : Written) : Type 0 where
   pub answer : r ≡ answered length (listing mode recording ds fs skips postings output)
   pub skips-after :
       skips′
-      ≡ after (λ _. putAt 0 (blocksOf (keptIn mode recording) (length ds / 128) 0 ds fs .skips) skips)
+      ≡ orBefore (λ _. putAt 0 (blocksOf (keptIn mode recording) (length ds / 128) 0 ds fs .skips) skips)
       (listing mode recording ds fs skips postings output) skips
   pub postings-after :
       postings′
-      ≡ after (λ _. putAt 0 (blocksOf (keptIn mode recording) (length ds / 128) 0 ds fs .postings) postings)
+      ≡ orBefore (λ _. putAt 0 (blocksOf (keptIn mode recording) (length ds / 128) 0 ds fs .postings) postings)
       (listing mode recording ds fs skips postings output) postings
-  pub output-after : output′ ≡ after (λ image. putAt 0 image output) (listing mode recording ds fs skips postings output) output
+  pub output-after : output′ ≡ orBefore (λ image. putAt 0 image output) (listing mode recording ds fs skips postings output) output
 
 -- ---- the private functions below them
 

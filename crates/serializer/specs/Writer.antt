@@ -6,7 +6,7 @@ use Prim.Native.Nat.{ℕ, zero, suc, _+_, _/_}
 use lib.ListN.{length, take, drop, set, replicate}
 use lib.Dec.{eqb, leb, ltb}
 use Rattle.format.specs.declared.IndexRecordOption.{IndexRecordOption}
-use Rattle.format.specs.Basics.{Outcome, ok, refused, andThen, ask, choose, lastOf, putAt, fitsAt, TERMINATED}
+use Rattle.format.specs.Basics.{Outcome, ok, refused, andThen, ask, choose, lastOf, putAt, fitsAt, orBefore, TERMINATED}
 use Rattle.format.specs.Refusal.{unknownMode, countMismatch, noRoom, stateBroken}
 use Rattle.format.specs.Vint.{vints}
 use Rattle.format.specs.Bitpacking.{pack, width}
@@ -15,13 +15,6 @@ use Rattle.format.specs.SkipEntry.{hasFreq, writeEntry}
 use Rattle.format.specs.Written.{onlyIf, Parts, headed}
 use Rattle.format.specs.Accepted.{keptIn, takeDoc, written}
 use Rattle.serializer.specs.declared.PostingsSerializer.{PostingsSerializer}
-
--- ---- what an outcome leaves
-
--- what an outcome brings, or what stood there before
-unfoldable pub after : {A B : Type 0} → (A → B) → Outcome A → B → B
-after f (ok a) before = f a
-after f (refused n) before = before
 
 -- ---- the bytes of one full block
 
@@ -190,10 +183,10 @@ takeAll s (d ∷ ds) (f ∷ fs) skips postings =
 
 -- how many documents at the front of a list are accepted
 unfoldable pub acceptedCount : IndexRecordOption → ℕ → List ℕ → List ℕ → ℕ
-unfolding after takeDoc
+unfolding orBefore takeDoc
 acceptedCount option least [] fs = 0
 acceptedCount option least (d ∷ ds) [] = 0
-acceptedCount option least (d ∷ ds) (f ∷ fs) = after (λ next. 1 + acceptedCount option next ds fs) (takeDoc option least d f) 0
+acceptedCount option least (d ∷ ds) (f ∷ fs) = orBefore (λ next. 1 + acceptedCount option next ds fs) (takeDoc option least d f) 0
 
 -- ---- a whole list
 

@@ -11,12 +11,12 @@ use borrow.Author.Tests.{eq-eqb, eqb-true, le-leb}
 use lib.ListN.{length, take}
 use lib.Seq.{take-at}
 use Rattle.format.specs.Accepted.{written}
-use Rattle.format.specs.Basics.{Outcome, ok, refused, choose, fitsAt, putAt}
+use Rattle.format.specs.Basics.{Outcome, ok, refused, choose, fitsAt, putAt, orBefore}
 use Rattle.format.proofs.Area.{length-putAt}
 use Rattle.serializer.specs.declared.Written.{Written}
 use Rattle.serializer.specs.declared.Written.the-variants.{Bytes, Refused}
 use Rattle.serializer.specs.Calls.{answered, Listed}
-use Rattle.serializer.specs.Writer.{after, listing}
+use Rattle.serializer.specs.Writer.{listing}
 use Rattle.serializer.proofs.Laws.WholeList.{whole-list-writes}
 use Rattle.vectors.specs.Replay.{sameBytes, isImage, writesImage}
 
@@ -85,7 +85,7 @@ module _ (mode : ℕ) (recording : Bool) (ds fs image skips postings output : Li
       room = whole-list-writes mode recording ds fs skips postings output .0 listed .1 .output-fit
 
       after-is : output′ ≡ putAt 0 bytes output
-      unfolding after
+      unfolding orBefore
       after-is = h .output-after ∙ rw listed
 
       pub image-within : n ≤ length output′

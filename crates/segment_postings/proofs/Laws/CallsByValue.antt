@@ -9,7 +9,7 @@ use mathlib.Core.List.{List}
 use mathlib.Core.Path.{_≡_, refl, sym}
 use Prim.Native.Nat.{ℕ, _<_}
 use Rattle.format.specs.declared.Term.{Term}
-use Rattle.format.specs.Basics.{Outcome, ok}
+use Rattle.format.specs.Basics.{Outcome, ok, orBefore}
 use Rattle.segment_postings.specs.declared.Answer.{Answer}
 use Rattle.segment_postings.specs.declared.Answer.the-variants as answer-as
 use Rattle.segment_postings.specs.declared.Held.{Held}
@@ -18,7 +18,7 @@ use Rattle.segment_postings.specs.declared.Reached.{Reached}
 use Rattle.segment_postings.specs.declared.Reached.the-variants as reached-as
 use Rattle.segment_postings.specs.declared.SegmentPostings.{SegmentPostings}
 use Rattle.segment_postings.specs.Cursor.{answering, moved, blank, opening, opened, stepping, advanced, seeking, sought}
-use Rattle.segment_postings.specs.Calls.{cursorOf, orBefore, Reaches}
+use Rattle.segment_postings.specs.Calls.{cursorOf, Reaches}
 use Rattle.segment_postings.proofs.Laws.LandingParts.{reached-at, reached-nowhere, moved-at, moved-nowhere, opening-near}
 use Rattle.segment_postings.proofs.Laws.ReachedBounds.{stepping-near, seeking-near}
 

@@ -13,7 +13,7 @@ use lib.Dec.{eqb, leb}
 use lib.ListN.{getD}
 use Rattle.format.specs.declared.Layout.{Layout}
 use Rattle.format.specs.declared.Term.{Term}
-use Rattle.format.specs.Basics.{Outcome, ok, refused, andThen, ask, choose, TERMINATED}
+use Rattle.format.specs.Basics.{Outcome, ok, refused, andThen, ask, choose, TERMINATED, orBefore}
 use Rattle.format.specs.Refusal.{entryBroken, stateBroken}
 use Rattle.format.specs.SkipEntry.{blockSize}
 use Rattle.format.specs.Layout.{layout, fullBlocks, skipBytes}
@@ -32,7 +32,7 @@ use Rattle.segment_postings.specs.declared.Answer.the-variants as answer
 use Rattle.segment_postings.specs.declared.Reached.{Reached}
 use Rattle.segment_postings.specs.declared.Reached.the-variants as reached-as
 use Rattle.segment_postings.specs.Cursor.{findBlock, loadBlock, holding, landing, position, inBounds, opening, atPlace, leastAfter, startsInside, leaving, stepping, answerAt, answering, moved}
-use Rattle.segment_postings.specs.Calls.{laid, searched, counted, orBefore, cursorOf, heldOf, reached, loaded, FindsFrom, BlockLoaded, Reaches}
+use Rattle.segment_postings.specs.Calls.{laid, searched, counted, cursorOf, heldOf, reached, loaded, FindsFrom, BlockLoaded, Reaches}
 use Rattle.segment_postings.proofs.core.Question16.{Bounded, bounded}
 use Rattle.segment_postings.proofs.layout.SplitParts.{laid-out}
 use Rattle.segment_postings.proofs.Laws.CursorTurns.{landing-is, opening-is}

@@ -12,7 +12,7 @@ use lib.Dec.{eqb, leb}
 use lib.ListN.{length}
 use Rattle.format.specs.declared.Layout.{Layout}
 use Rattle.format.specs.declared.Term.{Term}
-use Rattle.format.specs.Basics.{Outcome, ok, refused, andThen, ask, TERMINATED}
+use Rattle.format.specs.Basics.{Outcome, ok, refused, andThen, ask, TERMINATED, orBefore}
 use Rattle.format.specs.Refusal.{unknownMode, noRoom}
 use Rattle.format.specs.Layout.{layout}
 use Rattle.format.specs.Reading.{Block, reading, soundness, docsOf}
@@ -22,7 +22,7 @@ use Rattle.format.proofs.Outcome.{refused≢ok, ok-same, ask-ok, andThen-ok}
 use Rattle.format.proofs.Requested.{sound-requested}
 use Rattle.format.proofs.Sound.{sound-image, sound-blocks, whole-count}
 use Rattle.segment_postings.specs.declared.Value.the-variants as value-as
-use Rattle.segment_postings.specs.Calls.{orBefore, valued}
+use Rattle.segment_postings.specs.Calls.{valued}
 use Rattle.segment_postings.specs.ReadWhole.{readWhole, WholeRead, Walks, Written}
 use Rattle.segment_postings.proofs.Laws.BelowMark.{count-most}
 

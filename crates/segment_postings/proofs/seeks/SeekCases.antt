@@ -8,7 +8,7 @@ use borrow.Author.Tests.{leb-true, ltb-true, le-leb, lt-leb, lt-ltb, le-ltb}
 use lib.Dec.{eqb, leb, ltb}
 use lib.ListN.{getD}
 use Rattle.format.specs.declared.Term.{Term}
-use Rattle.format.specs.Basics.{Outcome, ok, refused, andThen, ask, choose, TERMINATED}
+use Rattle.format.specs.Basics.{Outcome, ok, refused, andThen, ask, choose, TERMINATED, orBefore}
 use Rattle.format.specs.Refusal.{targetTooLarge, stateBroken}
 use Rattle.format.specs.Layout.{fullBlocks}
 use Rattle.block_search.specs.Search.{searchBlock}
@@ -17,7 +17,7 @@ use Rattle.segment_postings.specs.declared.Reached.{Reached}
 use Rattle.segment_postings.specs.declared.Reached.the-variants as reached-as
 use Rattle.segment_postings.specs.declared.SegmentPostings.{SegmentPostings}
 use Rattle.segment_postings.specs.Cursor.{inBounds, position, opening, atPlace, leaving, placeOf, within, behind, seeking, ranking}
-use Rattle.segment_postings.specs.Calls.{orBefore, cursorOf, heldOf, reached, Reaches}
+use Rattle.segment_postings.specs.Calls.{cursorOf, heldOf, reached, Reaches}
 use Rattle.segment_postings.proofs.Laws.LandingParts.{reaches-as, reached-at, reached-nowhere}
 use Rattle.segment_postings.proofs.Laws.CursorTurns.{behind-is, seeking-is}
 

@@ -11,14 +11,14 @@ use native.Mathlib.Omega.{arith}
 use borrow.Author.Tests.{leb-true}
 use lib.ListN.{length}
 use Rattle.format.specs.declared.IndexRecordOption.{IndexRecordOption}
-use Rattle.format.specs.Basics.{Outcome, ok, refused, andThen, ask, putAt, fitsAt, AllBelow}
+use Rattle.format.specs.Basics.{Outcome, ok, refused, andThen, ask, putAt, fitsAt, AllBelow, orBefore}
 use Rattle.format.specs.Refusal.{noRoom}
 use Rattle.format.specs.Written.{Parts, parts}
 use Rattle.format.specs.Accepted.{takeDoc, takeDocs}
 use Rattle.format.proofs.Outcome.{refused≢ok}
 use Rattle.format.proofs.Area.{length-putAt}
 use Rattle.serializer.specs.declared.PostingsSerializer.{PostingsSerializer}
-use Rattle.serializer.specs.Writer.{after, Areas, entryOf, blockOf, tailOf, optionOf, waitingDocs, waitingFreqs, firstLeast}
+use Rattle.serializer.specs.Writer.{Areas, entryOf, blockOf, tailOf, optionOf, waitingDocs, waitingFreqs, firstLeast}
 use Rattle.serializer.specs.Writer.{stored, taking, takeAll, acceptedCount, blocksOf}
 use Rattle.serializer.proofs.list.Blocks.{blocksOf-zero, blocksOf-suc, parts-front, parts-tail}
 use Rattle.serializer.proofs.document.OneDocument.{nextLeast, Held, Accepts, accepts, emptied, filled, call-refused, call-waits, call-fills}
@@ -109,7 +109,7 @@ module _ {s : PostingsSerializer} {skips postings : List ℕ} (h : Held s skips 
 
   document-refused : (d f : ℕ) {n : ℕ} (ds fs : List ℕ) → takeDoc (optionOf s) (nextLeast s) d f ≡ refused n
       → Claim s (d ∷ ds) (f ∷ fs) skips postings
-  unfolding andThen after
+  unfolding andThen orBefore
   document-refused d f ds fs e =
       rw (ahead-none h (d ∷ ds) (f ∷ fs) blocksOf (rw (accepted-cons, e)), blocksOf-zero, room-none h)
       (rw (takeDocs-cons, takeAll-cons, e, call-refused h d f e) (refuses refl))

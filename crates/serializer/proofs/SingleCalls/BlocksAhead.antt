@@ -13,12 +13,12 @@ use borrow.Author.Tests.{le-leb, lt-leb}
 use lib.ListN.{length, take, drop, length-append}
 use lib.Seq.{append-snoc, take-at, drop-at, take-length, take-paste}
 use Rattle.format.specs.declared.IndexRecordOption.{IndexRecordOption}
-use Rattle.format.specs.Basics.{lastOf, putAt, fitsAt}
+use Rattle.format.specs.Basics.{lastOf, putAt, fitsAt, orBefore}
 use Rattle.format.specs.Written.{Parts}
 use Rattle.format.specs.Accepted.{takeDoc}
 use Rattle.format.proofs.Area.{putAt-paste, length-putAt, putAt-nil, putAt-append, fits-front}
 use Rattle.serializer.specs.declared.PostingsSerializer.{PostingsSerializer}
-use Rattle.serializer.specs.Writer.{after, entryOf, blockOf, optionOf, waitingDocs, waitingFreqs, firstLeast}
+use Rattle.serializer.specs.Writer.{entryOf, blockOf, optionOf, waitingDocs, waitingFreqs, firstLeast}
 use Rattle.serializer.specs.Writer.{stored, acceptedCount}
 use Rattle.serializer.proofs.document.OneDocument.{nextLeast, Held, Accepts, filled, stored-option, stored-least, stored-docs, stored-freqs}
 use Rattle.serializer.proofs.document.OneDocument.{stored-next, stored-docs-long, stored-freqs-long, stored-whole-docs, stored-whole-freqs}
@@ -51,7 +51,7 @@ Grows F =
 
 pub accepted-cons : (option : IndexRecordOption) (least d : ℕ) (ds : List ℕ) (f : ℕ) (fs : List ℕ)
     → acceptedCount option least (d ∷ ds) (f ∷ fs)
-    ≡ after (λ next. 1 + acceptedCount option next ds fs) (takeDoc option least d f) 0
+    ≡ orBefore (λ next. 1 + acceptedCount option next ds fs) (takeDoc option least d f) 0
 unfolding acceptedCount
 accepted-cons option least d ds f fs = refl
 
@@ -63,7 +63,7 @@ ahead-none {s} h ds fs F none = let few : (s .waiting + 0) / 128 ≡ 0 = omega (
 
 module _ {s : PostingsSerializer} {skips postings : List ℕ} {d f : ℕ} (a : Accepts s skips postings d f) (ds fs : List ℕ) (F : Maker) where
   one-more : acceptedCount (optionOf s) (nextLeast s) (d ∷ ds) (f ∷ fs) ≡ 1 + acceptedCount (optionOf s) (d + 1) ds fs
-  unfolding after
+  unfolding orBefore
   one-more = rw (accepted-cons, a .accepted)
 
   as-many : s .waiting + (1 + acceptedCount (optionOf s) (d + 1) ds fs) ≡ stored s d f .waiting + acceptedCount (optionOf s) (d + 1) ds fs

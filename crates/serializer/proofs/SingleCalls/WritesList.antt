@@ -14,7 +14,7 @@ use borrow.Author.Tests.{le-leb, lt-leb, eq-eqb, ne-eqb}
 use lib.Dec.{eqb}
 use lib.ListN.{length, take}
 use Rattle.format.specs.declared.IndexRecordOption.{IndexRecordOption}
-use Rattle.format.specs.Basics.{Outcome, ok, refused, andThen, ask, putAt, fitsAt, AllBelow}
+use Rattle.format.specs.Basics.{Outcome, ok, refused, andThen, ask, putAt, fitsAt, AllBelow, orBefore}
 use Rattle.format.specs.Refusal.{noRoom, countMismatch, stateBroken}
 use Rattle.format.specs.Values.{rising, countable}
 use Rattle.format.specs.Written.{Parts, headed, image}
@@ -23,7 +23,7 @@ use Rattle.format.proofs.Outcome.{refused≢ok, andThen-ok}
 use Rattle.format.proofs.Opened.{image-is}
 use Rattle.format.proofs.Accepted.{written-ok}
 use Rattle.serializer.specs.declared.PostingsSerializer.{PostingsSerializer}
-use Rattle.serializer.specs.Writer.{after, Areas, tailOf, fresh, optionOf, waitingDocs, waitingFreqs, firstLeast, leastAfter}
+use Rattle.serializer.specs.Writer.{Areas, tailOf, fresh, optionOf, waitingDocs, waitingFreqs, firstLeast, leastAfter}
 use Rattle.serializer.specs.Writer.{inBounds, imageOf, closing, takeAll, acceptedCount, blocksOf}
 use Rattle.serializer.proofs.list.Blocks.{blocks-fewer}
 use Rattle.serializer.proofs.document.OneDocument.{nextLeast, Held, in-bounds}
@@ -73,15 +73,15 @@ imageOf-is s skips postings = refl
 
 accepted-all : (option : IndexRecordOption) (least : ℕ) (ds fs : List ℕ) {next : ℕ} → takeDocs option least ds fs ≡ ok next
     → acceptedCount option least ds fs ≡ length ds
-unfolding acceptedCount takeDocs after
+unfolding acceptedCount takeDocs orBefore
 accepted-all option least [] fs t = refl
 accepted-all option least (d ∷ ds) [] t = absurd (refused≢ok t)
 accepted-all option least (d ∷ ds) (f ∷ fs) t =
     let p = andThen-ok (takeDoc option least d f) (λ next. takeDocs option next ds fs) t in
     rw (p .1, accepted-all option _ ds fs (p .2), one-add)
 
-one-more-le : {n : ℕ} (count : ℕ → ℕ) → ((next : ℕ) → count next ≤ n) → (o : Outcome ℕ) → after (λ next. 1 + count next) o 0 ≤ suc n
-unfolding after
+one-more-le : {n : ℕ} (count : ℕ → ℕ) → ((next : ℕ) → count next ≤ n) → (o : Outcome ℕ) → orBefore (λ next. 1 + count next) o 0 ≤ suc n
+unfolding orBefore
 one-more-le count h (ok next) = omega (arith, h next)
 one-more-le count h (refused m) = omega arith
 

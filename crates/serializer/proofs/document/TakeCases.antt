@@ -12,7 +12,7 @@ use lib.Dec.{leb, ltb}
 use lib.ListN.{length, getD, take, set, drop-of-length-le}
 use lib.Seq.{length-take-le, set-split, getD-take}
 use borrow.Author.Tests.{le-leb, lt-ltb, le-ltb, leb-true, ltb-true}
-use Rattle.format.specs.Basics.{Outcome, ok, refused, andThen, ask, choose, lastOf, putAt, TERMINATED}
+use Rattle.format.specs.Basics.{Outcome, ok, refused, andThen, ask, choose, lastOf, putAt, TERMINATED, orBefore}
 use Rattle.format.specs.Refusal.{noRoom, stateBroken}
 use Rattle.format.specs.Values.{rising}
 use Rattle.format.specs.Accepted.{takeDoc}
@@ -25,7 +25,7 @@ use Rattle.serializer.specs.declared.Placed.{Placed}
 use Rattle.serializer.specs.declared.Placed.the-variants.{At, NoRoom}
 use Rattle.serializer.specs.Calls.{accepted, Settled, BlockWritten, blockFits}
 use Rattle.serializer.specs.Pieces.{asking, emptied}
-use Rattle.serializer.specs.Writer.{Areas, boundsHold, inBounds, optionOf, firstLeast, leastAfter, waitingDocs, after, stored, entryOf, blockOf, finished, taking}
+use Rattle.serializer.specs.Writer.{Areas, boundsHold, inBounds, optionOf, firstLeast, leastAfter, waitingDocs, stored, entryOf, blockOf, finished, taking}
 use Rattle.serializer.proofs.block.BlockPlaced.{last-at}
 use Rattle.serializer.proofs.bounds.Question16.{few, waiting-rises}
 
@@ -195,12 +195,12 @@ had-room false p q e = absurd (let z : _≡_ {A = ℕ} 0 1 = cc in omega arith)
 
 pub settled-refused : (s : PostingsSerializer) (skips postings : List ℕ) {o : Outcome Areas} {n : ℕ} → o ≡ refused n
     → Settled o s skips postings skips postings (record { answer = Refused n; state = s })
-unfolding accepted after
+unfolding accepted orBefore
 settled-refused s skips postings e = record { answer = rw e; state = rw e; skips-after = rw e; postings-after = rw e }
 
 pub settled-ok : (s : PostingsSerializer) (skips postings : List ℕ) {o : Outcome Areas} {a : Areas} → o ≡ ok a
     → Settled o s skips postings (a .skips) (a .postings) (record { answer = Yes; state = a .state })
-unfolding accepted after
+unfolding accepted orBefore
 settled-ok s skips postings e = record { answer = rw e; state = rw e; skips-after = rw e; postings-after = rw e }
 
 module _ (full : PostingsSerializer) (least : ℕ) (skips postings : List ℕ) where

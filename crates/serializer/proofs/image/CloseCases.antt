@@ -7,7 +7,7 @@ use Prim.Native.Nat.{ℕ, _+_, _-_, _/_, _<_}
 use native.Mathlib.Omega.{arith}
 use lib.ListN.{length, take}
 use borrow.Author.Tests.{eq-eqb, ne-eqb, leb-false}
-use Rattle.format.specs.Basics.{ok, refused, ask, choose, fitsAt}
+use Rattle.format.specs.Basics.{ok, refused, ask, choose, fitsAt, orBefore}
 use Rattle.format.specs.Refusal.{countMismatch, noRoom, stateBroken}
 use Rattle.format.specs.Values.{gaps, reduction, origin}
 use Rattle.format.proofs.Area.{putAt-refused}
@@ -15,7 +15,7 @@ use Rattle.serializer.specs.declared.PostingsSerializer.{PostingsSeriali
 use Rattle.serializer.specs.declared.Written.the-variants.{Bytes, Refused}
 use Rattle.serializer.specs.Calls.{answered, imageWith, Closed, ImagePut}
 use Rattle.serializer.specs.Pieces.{tailWith}
-use Rattle.serializer.specs.Writer.{after, fresh, inBounds, optionOf, firstLeast, waitingDocs, waitingFreqs, tailOf, imageOf, closing}
+use Rattle.serializer.specs.Writer.{fresh, inBounds, optionOf, firstLeast, waitingDocs, waitingFreqs, tailOf, imageOf, closing}
 
 -- the image of a state, by its parts: a tail's differences begin at the id before the least that may come
 pub image-of : (s : PostingsSerializer) (skips postings : List ℕ)
@@ -42,7 +42,7 @@ too-long image output e = leb-false _ _ e
 module _ (s : PostingsSerializer) (announced : ℕ) (skips postings output : List ℕ) where
   stopped : {n : ℕ} → closing s announced skips postings output ≡ refused n
       → Closed s announced skips postings output output (record { answer = Refused n; state = s })
-  unfolding answered after
+  unfolding answered orBefore
   stopped e = record { answer = rw e; state = rw e; output-after = rw e }
 
   pub closed-broken : inBounds s skips postings ≡ false
@@ -64,7 +64,7 @@ module _ (s : PostingsSerializer) (announced : ℕ) (skips postings output : Lis
     -- the image doesn't fit
     pub closed-refused : {output′ : List ℕ} {k : ℕ} → ImagePut (imageOf s skips postings) output output′ (Refused k)
         → Closed s announced skips postings output output′ (record { answer = Refused k; state = s })
-    unfolding ask choose answered after
+    unfolding ask choose answered orBefore
     closed-refused put =
         let small = short (fitsAt 0 (imageOf s skips postings) output) (length (imageOf s skips postings)) (put .answer) in
         let same = putAt-refused 0 (imageOf s skips postings) output (too-long (imageOf s skips postings) output small) in
@@ -77,7 +77,7 @@ module _ (s : PostingsSerializer) (announced : ℕ) (skips postings output : Lis
     -- .. or it does
     pub closed-done : {output′ : List ℕ} {k : ℕ} → ImagePut (imageOf s skips postings) output output′ (Bytes k)
         → Closed s announced skips postings output output′ (record { answer = Bytes k; state = fresh (s .mode) (s .recording) })
-    unfolding ask choose answered after
+    unfolding ask choose answered orBefore
     closed-done put =
         let room = fitted (fitsAt 0 (imageOf s skips postings) output) (length (imageOf s skips postings)) (put .answer) in
         record { answer = put .answer ∙ rw (fitting, room); state = rw (fitting, room); output-after = put .output-after ∙ rw (fitting, room) }

@@ -9,7 +9,7 @@ use borrow.Author.Tests.{le-leb, lt-leb, eq-eqb, ne-eqb}
 use lib.Dec.{leb, eqb}
 use lib.ListN.{length, take}
 use Rattle.format.specs.declared.IndexRecordOption.{IndexRecordOption}
-use Rattle.format.specs.Basics.{Outcome, ok, refused, andThen, ask, choose, fitsAt, putAt}
+use Rattle.format.specs.Basics.{Outcome, ok, refused, andThen, ask, choose, fitsAt, putAt, orBefore}
 use Rattle.format.specs.Refusal.{unknownMode, countMismatch, noRoom}
 use Rattle.format.specs.Written.{image}
 use Rattle.format.specs.Accepted.{keptIn, begin, takeDocs, written}
@@ -18,7 +18,7 @@ use Rattle.serializer.specs.declared.Written.{Written}
 use Rattle.serializer.specs.declared.Written.the-variants.{Bytes, Refused}
 use Rattle.serializer.specs.Calls.{answered, ImagePut, Listed}
 use Rattle.serializer.specs.Whole.{ListSized, PartsThere, fullBlocks, imageFrom, blocksFit, listFits, BlocksPut, ListPut}
-use Rattle.serializer.specs.Writer.{after, listing}
+use Rattle.serializer.specs.Writer.{listing}
 use Rattle.serializer.proofs.Laws.BlockPlaces.{image-from, front-fits, blocks-room, listFits-is, put-front}
 
 -- ---- an outcome that hangs on one question
@@ -30,8 +30,8 @@ module _ {A : Type 0} {o : Outcome A} (n : ℕ) (a : A) where
   asked-answer bytes true e = rw e
   asked-answer bytes false e = rw e
 
-  asked-after : {B : Type 0} (f : A → B) (t : Bool) (b : B) → o ≡ (ask t n λ _. ok a) → after f o b ≡ choose t (λ _. f a) (λ _. b)
-  unfolding after ask choose
+  asked-after : {B : Type 0} (f : A → B) (t : Bool) (b : B) → o ≡ (ask t n λ _. ok a) → orBefore f o b ≡ choose t (λ _. f a) (λ _. b)
+  unfolding orBefore ask choose
   asked-after f true b e = rw e
   asked-after f false b e = rw e
 
@@ -63,7 +63,7 @@ listing-is mode recording ds fs skips postings output = refl
 module _ (mode : ℕ) (recording : Bool) (ds fs skips postings output : List ℕ) where
   pub listed-refused : {n : ℕ} → listing mode recording ds fs skips postings output ≡ refused n
       → Listed mode recording ds fs skips postings output skips postings output (Refused n)
-  unfolding answered after
+  unfolding answered orBefore
   listed-refused e = record { answer = rw e; skips-after = rw e; postings-after = rw e; output-after = rw e }
 
   pub mode-unknown : 1 < mode → listing mode recording ds fs skips postings output ≡ refused unknownMode
