@@ -1,4 +1,5 @@
 pub mod Calls
+pub mod EnoughRoom
 pub mod Pieces
 pub mod Whole
 pub mod Writer

@@ -33,7 +33,7 @@ use Rattle.serializer.proofs.document.TakeCases.{least-some}
 
 -- ---- the ids of a block
 
-rises-behind : (least m : ℕ) (ds : List ℕ) → rising least ds ≡ true → rising (leastAfter least (take m ds)) (drop m ds) ≡ true
+pub rises-behind : (least m : ℕ) (ds : List ℕ) → rising least ds ≡ true → rising (leastAfter least (take m ds)) (drop m ds) ≡ true
 unfolding leastAfter
 rises-behind least zero ds r = r
 rises-behind least (suc m) [] r = r

@@ -57,7 +57,7 @@ blockOf-is : (option : IndexRecordOption) (least : ℕ) (ds fs : List ℕ)
 unfolding blockOf
 blockOf-is option least ds fs = refl
 
-tailOf-is : (option : IndexRecordOption) (least : ℕ) (ds fs : List ℕ)
+pub tailOf-is : (option : IndexRecordOption) (least : ℕ) (ds fs : List ℕ)
     → tailOf option least ds fs ≡ vints (gaps false least ds) ++ onlyIf (hasFreq option) (vints fs)
 unfolding tailOf
 tailOf-is option least ds fs = refl
