@@ -1,3 +1,4 @@
 pub mod AllDocuments
 pub mod BlocksAhead
 pub mod WritesList
+pub mod TakenDocuments

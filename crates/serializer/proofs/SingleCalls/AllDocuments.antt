@@ -47,6 +47,8 @@ pub record Ended (s : PostingsSerializer) (ds fs skips postings : List ℕ) (r :
   pub answer : r ≡ ok areas
   pub held : Held (areas .state) (areas .skips) (areas .postings)
   pub taken : areas .state .taken ≡ s .taken + length ds
+  pub option-is : optionOf (areas .state) ≡ optionOf s
+  pub next-is : takeDocs (optionOf s) (nextLeast s) ds fs ≡ ok (nextLeast (areas .state))
   pub skips-wrote :
       Wrote skips (s .«skips_at») (ahead blocksOf s ds fs .skips) (ahead parts s ds fs .skips)
       (areas .skips) (areas .state .«skips_at») []
@@ -78,6 +80,12 @@ module _ {P : Outcome Areas → Type 0} where
   answers-ok (refuses e) f t = absurd (refused≢ok t)
   answers-ok (ends p) f t = p
 
+  pub answers-taken : {b : Bool} {o : Outcome ℕ} {r : Outcome Areas} {a : Areas} → Answers P b o r → r ≡ ok a
+      → (next : ℕ) × (b ≡ true) × (o ≡ ok next) × P r
+  answers-taken (no-room e) all = absurd (refused≢ok (sym e ∙ all))
+  answers-taken (refuses e) all = absurd (refused≢ok (sym e ∙ all))
+  answers-taken (ends {next} p) all = (next, refl, refl, p)
+
   answers-map : {Q : Outcome Areas → Type 0} {b : Bool} {o : Outcome ℕ} {r : Outcome Areas} → (b ≡ true → P r → Q r)
       → Answers P b o r → Answers Q b o r
   answers-map m (no-room e) = no-room e
@@ -103,6 +111,8 @@ module _ {s : PostingsSerializer} {skips postings : List ℕ} (h : Held s skips 
         answer = refl;
         held = h;
         taken = sym (add-zero (s .taken));
+        option-is = refl;
+        next-is = refl;
         skips-wrote = rw (blocks, all) (wrote-none skips _ []);
         postings-wrote = rw (blocks, all, append-nil, append-nil) (wrote-none postings _ _);
       }))
@@ -122,13 +132,15 @@ Later ds fs = (s : PostingsSerializer) (skips postings : List ℕ) → Held s sk
 
 module _ {s : PostingsSerializer} {skips postings : List ℕ} {d f : ℕ} (a : Accepts s skips postings d f) (ds fs : List ℕ) where
   ended-waits : (r : Outcome Areas) → Ended (stored s d f) ds fs skips postings r → Ended s (d ∷ ds) (f ∷ fs) skips postings r
-  unfolding stored
+  unfolding andThen stored
   ended-waits r ended =
       record {
         areas = ended .areas;
         answer = ended .answer;
         held = ended .held;
         taken = ended .taken ∙ omega arith;
+        option-is = ended .option-is ∙ stored-option a;
+        next-is = rw (takeDocs-cons, a .accepted) (rw (stored-option a, stored-next a) at (ended .next-is));
         skips-wrote = rw (ahead-waits a ds fs blocksOf, ahead-waits a ds fs parts) (ended .skips-wrote);
         postings-wrote = rw (ahead-waits a ds fs blocksOf, ahead-waits a ds fs parts) (ended .postings-wrote);
       }
@@ -171,7 +183,7 @@ module _ {s : PostingsSerializer} {skips postings : List ℕ} {d f : ℕ} (a : A
 
   ended-fills : s .waiting ≡ 127 → room (ahead blocksOf s (d ∷ ds) (f ∷ fs)) s skips postings ≡ true → (r : Outcome Areas)
       → Ended (filled s d f) ds fs skips-next postings-next r → Ended s (d ∷ ds) (f ∷ fs) skips postings r
-  unfolding emptied stored fitsAt
+  unfolding andThen emptied stored fitsAt
   ended-fills whole fits r ended =
       let blocks = ahead-fills a ds fs blocksOf blocksOf-suc whole in
       let all = ahead-fills a ds fs parts parts-front whole in
@@ -182,6 +194,8 @@ module _ {s : PostingsSerializer} {skips postings : List ℕ} {d f : ℕ} (a : A
         answer = ended .answer;
         held = ended .held;
         taken = ended .taken ∙ omega arith;
+        option-is = ended .option-is ∙ filled-option a;
+        next-is = rw (takeDocs-cons, a .accepted) (rw (filled-option a, filled-next a whole) at (ended .next-is));
         skips-wrote = rw (blocks, all) (wrote-front entry (leb-true _ _ (both .0)) (ended .skips-wrote));
         postings-wrote = rw (blocks, all) (wrote-front block (leb-true _ _ (both .1)) (ended .postings-wrote));
       }

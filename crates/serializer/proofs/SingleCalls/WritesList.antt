@@ -71,7 +71,7 @@ imageOf-is s skips postings = refl
 
 -- ---- how many documents are accepted
 
-accepted-all : (option : IndexRecordOption) (least : ℕ) (ds fs : List ℕ) {next : ℕ} → takeDocs option least ds fs ≡ ok next
+pub accepted-all : (option : IndexRecordOption) (least : ℕ) (ds fs : List ℕ) {next : ℕ} → takeDocs option least ds fs ≡ ok next
     → acceptedCount option least ds fs ≡ length ds
 unfolding acceptedCount takeDocs orBefore
 accepted-all option least [] fs t = refl
@@ -101,7 +101,7 @@ andThen-refused (refused m) f e = cc
 -- ---- a fresh state
 
 module _ (mode : ℕ) (recording : Bool) where
-  fresh-option : optionOf (fresh mode recording) ≡ keptIn mode recording
+  pub fresh-option : optionOf (fresh mode recording) ≡ keptIn mode recording
   unfolding optionOf fresh
   fresh-option = refl
 
@@ -121,7 +121,7 @@ module _ (mode : ℕ) (recording : Bool) where
   unfolding waitingFreqs fresh
   fresh-freqs = refl
 
-  fresh-next : nextLeast (fresh mode recording) ≡ 0
+  pub fresh-next : nextLeast (fresh mode recording) ≡ 0
   unfolding leastAfter
   fresh-next = rw (fresh-docs, fresh-least)
 
@@ -160,7 +160,7 @@ module _ (mode : ℕ) (recording : Bool) (ds fs skips postings : List ℕ) (smal
   unfolding written begin ask andThen
   written-is = rw (le-leb _ _ known, eq-eqb _ _ as-many)
 
-  answers :
+  pub answers :
       Answers (Ended (fresh mode recording) ds fs skips postings) (room blocks (fresh mode recording) skips postings)
       (takeDocs option 0 ds fs) (takeAll (fresh mode recording) ds fs skips postings)
   answers =
@@ -192,22 +192,28 @@ module _ (mode : ℕ) (recording : Bool) (ds fs skips postings : List ℕ) (smal
         let postings-are = rw (fresh-ahead, all) at (ended .postings-wrote .holds) in
         rw (imageOf-is, image-is, skips-are, postings-are, taken-all)
 
-    ended-closes : (announced : ℕ) (output : List ℕ)
+    pub ended-closes : (announced : ℕ) (output : List ℕ)
         → closing (ended .areas .state) announced (ended .areas .skips) (ended .areas .postings) output
         ≡ (ask (eqb (length ds) announced) countMismatch λ _.
         ask (fitsAt 0 (image option ds fs) output) noRoom λ _. ok (image option ds fs))
     unfolding ask
     ended-closes announced output = rw (closing-is, in-bounds (ended .held), ended-image, taken-all)
 
+    -- the areas have the full blocks and their entries at the front
+    pub ended-areas : (ended .areas .skips ≡ putAt 0 (blocksOf option (length ds / 128) 0 ds fs .skips) skips)
+        × (ended .areas .postings ≡ putAt 0 (blocksOf option (length ds / 128) 0 ds fs .postings) postings)
+    unfolding fresh
+    ended-areas = (rw (fresh-ahead, all) at (ended .skips-wrote .put), rw (fresh-ahead, all) at (ended .postings-wrote .put))
+
     ended-writes : takeAll (fresh mode recording) ds fs skips postings ≡ r
         → WritesList mode recording ds fs skips postings (image option ds fs)
-    unfolding fresh ask fitsAt
+    unfolding ask fitsAt
     ended-writes e =
         record {
           areas = ended .areas;
           takes = e ∙ ended .answer;
-          skips-after = rw (fresh-ahead, all) at (ended .skips-wrote .put);
-          postings-after = rw (fresh-ahead, all) at (ended .postings-wrote .put);
+          skips-after = ended-areas .0;
+          postings-after = ended-areas .1;
           closes = λ output fits. ended-closes (length ds) output ∙ rw (eq-eqb (length ds) _ refl, zero-add, le-leb _ _ fits);
           no-room = λ output fits. ended-closes (length ds) output ∙ rw (eq-eqb (length ds) _ refl, zero-add, lt-leb _ _ fits);
           miscounted = λ announced output other. ended-closes announced output ∙ rw (ne-eqb (length ds) announced (λ e. other (sym e)));

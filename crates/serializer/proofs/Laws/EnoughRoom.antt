@@ -30,8 +30,8 @@ use Rattle.serializer.specs.Whole.{fullBlocks}
 use Rattle.serializer.specs.Writer.{docValues, freqValues, blockOf, tailOf, leastAfter, blocksOf, listing}
 use Rattle.serializer.proofs.block.BlockPlaced.{blockOf-length}
 use Rattle.serializer.proofs.list.Blocks.{blocksOf-zero, blocksOf-suc, tailOf-is, image-blocks}
-use Rattle.serializer.proofs.list.BlockPlaces.{entries-fit, full-skips, rises-behind}
-use Rattle.serializer.proofs.list.WholeList.{HasRoom, whole-list-writes}
+use Rattle.serializer.proofs.Laws.BlockPlaces.{entries-fit, full-skips, rises-behind}
+use Rattle.serializer.proofs.Laws.WholeList.{HasRoom, whole-list-writes}
 
 -- ---- a full block
 
