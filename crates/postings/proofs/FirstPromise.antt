@@ -3,8 +3,7 @@
 --   the announced one and the buffers are long enough; an image is admitted exactly if it is sound by document 01, and each call ends.
 --   All else is refused under 01's numbers by the call itself, with cursor, writer state and buffers the same as before."
 -- Each theorem takes what a call's contract ensures. That each call ends is the checker's verdict over every function. The numbers of
--- the refusals are those of the definitions that the contracts cite. For single calls of the writer see serializer/proofs/WritesList.antt:
--- `single-calls-write`, `single-calls-refuse`, `single-calls-no-room`, and its field `miscounted` for the announced count.
+-- the refusals are those of the definitions that the contracts cite. For single calls of the writer see SingleCalls.antt.
 -- Assumes nothing.
 use mathlib.Core.Bool.{Bool, true, false, not, _&&_ as and, _||_ as or, and-eq-true-iff}
 use mathlib.Core.List.{List, [], _∷_}
@@ -96,13 +95,13 @@ module _ (mode : ℕ) (recording : Bool) (ds fs skips postings output : List ℕ
     pub accepted : Accepted (keptIn mode recording) 0 ds fs
     pub has-room : HasRoom mode recording ds fs skips postings output (image (keptIn mode recording) ds fs)
 
-  listed-acceptable : {bytes : List ℕ} → listing mode recording ds fs skips postings output ≡ ok bytes → Acceptable
+  pub listed-acceptable : {bytes : List ℕ} → listing mode recording ds fs skips postings output ≡ ok bytes → Acceptable
   listed-acceptable e =
       let p = whole-list-writes mode recording ds fs skips postings output .0 e in
       let w = written-ok mode recording ds fs small (p .0) in
       record { mode-known = w .mode-known; accepted = w .accepted; has-room = rw (w .bytes) at (p .1) }
 
-  acceptable-listed : Acceptable → listing mode recording ds fs skips postings output ≡ ok (image (keptIn mode recording) ds fs)
+  pub acceptable-listed : Acceptable → listing mode recording ds fs skips postings output ≡ ok (image (keptIn mode recording) ds fs)
   acceptable-listed a =
       whole-list-writes mode recording ds fs skips postings output .1
       (accepted-written mode recording ds fs (a .mode-known) (a .accepted), a .has-room)

@@ -1,3 +1,4 @@
 pub mod MixedCalls
 pub mod RunCalls
 pub mod ThirdPromise
+pub mod WriterCalls
