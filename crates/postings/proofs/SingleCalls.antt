@@ -13,7 +13,7 @@ use borrow.Author.Tests.{le-leb, leb-true, eq-eqb, eqb-true}
 use lib.Dec.{eqb, ltb}
 use lib.ListN.{length, take}
 use Rattle.format.specs.declared.IndexRecordOption.{IndexRecordOption}
-use Rattle.format.specs.Basics.{Outcome, ok, refused, andThen, ask, fitsAt, putAt}
+use Rattle.format.specs.Basics.{Outcome, ok, refused, andThen, ask, orBefore, fitsAt, putAt}
 use Rattle.format.specs.Refusal.{noRoom, countMismatch}
 use Rattle.format.specs.Accepted.{keptIn, begin, takeDoc, takeDocs, written}
 use Rattle.format.specs.Reading.{reading, soundness}
@@ -32,7 +32,7 @@ use Rattle.serializer.specs.declared.PostingsSerializer.{PostingsSerializer}
 use Rattle.serializer.specs.declared.Step.{Step}
 use Rattle.serializer.specs.Calls.{accepted, answered, beginning, Settled, Took, Closed}
 use Rattle.serializer.specs.Whole.{fullBlocks, blocksFit}
-use Rattle.serializer.specs.Writer.{Areas, after, fresh, begun, taking, takeAll, listing}
+use Rattle.serializer.specs.Writer.{Areas, fresh, begun, taking, takeAll, listing}
 use Rattle.serializer.proofs.Laws.BlockPlaces.{front-fits, blocks-room, put-front}
 use Rattle.serializer.proofs.Laws.WholeList.{whole-list-writes}
 use Rattle.serializer.proofs.SingleCalls.TakenDocuments.{TakenAll, taken-all}
@@ -45,7 +45,7 @@ use Rattle.postings.specs.WriterCalls.{areasOf, Handed, none, next, Term
 -- a call answered yes leaves what its definition gives
 settled-yes : {o : Outcome Areas} {s : PostingsSerializer} {skips postings skips′ postings′ : List ℕ} {r : Step}
     → Settled o s skips postings skips′ postings′ r → r .answer ≡ Yes → o ≡ ok (areasOf (r .state) skips′ postings′)
-unfolding accepted after
+unfolding accepted orBefore
 settled-yes {o = ok a} h e = rw (h .state, h .skips-after, h .postings-after)
 settled-yes {o = refused n} h e = let z : _≡_ {A = ℕ} 0 1 = cc in absurd (omega arith)
 
@@ -172,7 +172,7 @@ module _ (mode : ℕ) (recording : Bool) (skips postings : List ℕ) (known : mo
           (sym (eqb-true (length ids) announced (q .0)), front-room (image option ids freqs) output (room .0), p .2 ∙ ap length (sym (ok-same (room .1))))
 
       pub closed-bytes : take n output′ ≡ image option ids freqs
-      unfolding after ask
+      unfolding orBefore ask
       closed-bytes =
           let k = closes in
           let is = rw (eq-eqb (length ids) announced (sym (k .0)), room-front (image option ids freqs) output (k .1)) at (behind .closes announced output) in
@@ -215,7 +215,7 @@ taken-whole (Refused n ∷ answers) (d ∷ ds) e granted = absurd (false≢true 
 
 settled-ok : {o : Outcome Areas} {s : PostingsSerializer} {skips postings skips′ postings′ : List ℕ} {r : Step} {a : Areas}
     → Settled o s skips postings skips′ postings′ r → o ≡ ok a → (r .answer ≡ Yes) × (areasOf (r .state) skips′ postings′ ≡ a)
-unfolding accepted after
+unfolding accepted orBefore
 settled-ok h e =
     let granted = rw e at (h .answer) in
     (granted, ok-same (sym (settled-yes h granted) ∙ e))

@@ -20,7 +20,7 @@ use Rattle.serializer.specs.declared.Step.{Step}
 use Rattle.serializer.specs.declared.Written.{Written}
 use Rattle.serializer.specs.declared.Written.the-variants.{Bytes, Refused}
 use Rattle.serializer.specs.Pieces.{tailWith}
-use Rattle.serializer.specs.Writer.{Areas, fresh, begun, taking, closing, listing, blocksOf, entryOf, blockOf}
+use Rattle.serializer.specs.Writer.{Areas, fresh, begun, taking, closing, listing, announcing, blocksOf, entryOf, blockOf}
 
 -- what an outcome answers: of a call that gives no bytes ..
 unfoldable pub accepted : {A : Type 0} → Outcome A → Accepted
@@ -64,18 +64,22 @@ pub record Closed (s : PostingsSerializer) (announced : ℕ) (skips postings out
   pub state : r .state ≡ orBefore (λ _. fresh (s .mode) (s .recording)) (closing s announced skips postings output) s
   pub output-after : output′ ≡ orBefore (λ image. putAt 0 image output) (closing s announced skips postings output) output
 
--- a whole list
-pub record Listed (mode : ℕ) (recording : Bool) (ds fs skips postings output skips′ postings′ output′ : List ℕ) (r : Written) : Type 0 where
-  pub answer : r ≡ answered length (listing mode recording ds fs skips postings output)
-  pub skips-after :
-      skips′
-      ≡ orBefore (λ _. putAt 0 (blocksOf (keptIn mode recording) (length ds / 128) 0 ds fs .skips) skips)
-      (listing mode recording ds fs skips postings output) skips
-  pub postings-after :
-      postings′
-      ≡ orBefore (λ _. putAt 0 (blocksOf (keptIn mode recording) (length ds / 128) 0 ds fs .postings) postings)
-      (listing mode recording ds fs skips postings output) postings
-  pub output-after : output′ ≡ orBefore (λ image. putAt 0 image output) (listing mode recording ds fs skips postings output) output
+-- what a whole list answers and leaves, by its outcome: the image at the output's front, the full blocks and their entries at the fronts
+-- of the areas; a refusal leaves all as it was
+pub record ListLeft (o : Outcome (List ℕ)) (option : IndexRecordOption) (ds fs skips postings output skips′ postings′ output′ : List ℕ) (r : Written) : Type 0 where
+  pub answer : r ≡ answered length o
+  pub skips-after : skips′ ≡ orBefore (λ _. putAt 0 (blocksOf option (length ds / 128) 0 ds fs .skips) skips) o skips
+  pub postings-after : postings′ ≡ orBefore (λ _. putAt 0 (blocksOf option (length ds / 128) 0 ds fs .postings) postings) o postings
+  pub output-after : output′ ≡ orBefore (λ image. putAt 0 image output) o output
+
+abbrev pub Listed : ℕ → Bool → (ds fs skips postings output skips′ postings′ output′ : List ℕ) → Written → Type 0
+Listed mode recording ds fs skips postings output skips′ postings′ output′ r =
+    ListLeft (listing mode recording ds fs skips postings output) (keptIn mode recording) ds fs skips postings output skips′ postings′ output′ r
+
+-- .. under an announced count
+abbrev pub ListedAs : ℕ → Bool → ℕ → (ds fs skips postings output skips′ postings′ output′ : List ℕ) → Written → Type 0
+ListedAs mode recording announced ds fs skips postings output skips′ postings′ output′ r =
+    ListLeft (announcing mode recording announced ds fs skips postings output) (keptIn mode recording) ds fs skips postings output skips′ postings′ output′ r
 
 -- ---- the private functions below them
 

@@ -209,3 +209,11 @@ listing mode recording ds fs skips postings output =
     let blocks : Parts = blocksOf (keptIn mode recording) (length ds / 128) 0 ds fs in
     ask (and (and (fitsAt 0 (blocks .skips) skips) (fitsAt 0 (blocks .postings) postings)) (fitsAt 0 image output)) noRoom λ _.
     ok image
+
+-- .. under an announced count: 14 for another one behind the documents' questions, and before 15
+unfoldable pub announcing : ℕ → Bool → ℕ → List ℕ → List ℕ → List ℕ → List ℕ → List ℕ → Outcome (List ℕ)
+unfolding andThen ask written listing
+announcing mode recording announced ds fs skips postings output =
+    andThen (written mode recording ds fs) λ _.
+    ask (eqb (length ds) announced) countMismatch λ _.
+    listing mode recording ds fs skips postings output

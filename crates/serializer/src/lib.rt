@@ -13,6 +13,7 @@ use crate::image::put_term;
 use format::COUNT_MISMATCH;
 use format::STATE_BROKEN;
 use format::UNKNOWN_MODE;
+pub use list::ask_list;
 pub use list::write_list;
 ghost use mathlib.Core.Path.{_≡_};
 ghost use Rattle.serializer.specs.Calls.{beginning, Took, Closed};

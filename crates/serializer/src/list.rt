@@ -29,8 +29,8 @@ ghost use lib.Dec.{leb};
 ghost use lib.ListN.{length, take, drop};
 ghost use Rattle.format.specs.Bitpacking.{width};
 ghost use Rattle.format.specs.SkipEntry.{hasFreq, entrySize};
-ghost use Rattle.format.specs.Accepted.{takeDocs};
-ghost use Rattle.serializer.specs.Writer.{docValues, freqValues, blockOf};
+ghost use Rattle.format.specs.Accepted.{takeDocs, written};
+ghost use Rattle.serializer.specs.Writer.{docValues, freqValues, blockOf, announcing};
 ghost use Rattle.serializer.specs.Calls.{accepted, BlockWritten, ImagePut, Listed};
 ghost use Rattle.serializer.specs.Whole.{Checked, ListSized, BlockThere, PartsThere, fullBlocks, imageFrom, blocksFit, listFits, BlocksPut, ListPut};
 
@@ -298,6 +298,65 @@ fn write_checked(
     put_list(option, ids, freqs, entries, size, skips, postings, output)
 }
 
+// Questions 1, 14 of slices of different length, and 11 to 13.
+fn ask_docs(mode: u8, recording: bool, ids: &[u32], freqs: &[u32]) -> Accepted
+    ensures { λ r. ⌜ r ≡ accepted (written mode recording (now (ids .entry)) (now (freqs .entry))) ⌝ }
+{
+    if 1 < mode {
+        return Accepted::Refused(UNKNOWN_MODE);
+    }
+    if ids.len() != freqs.len() {
+        return Accepted::Refused(COUNT_MISMATCH);
+    }
+    check_docs(record_option(mode, recording), ids, freqs)
+}
+
+// Question 15, of a list that passed questions 11 to 14.
+fn has_room(
+    option: IndexRecordOption,
+    ids: &[u32],
+    freqs: &[u32],
+    skips: &[u8],
+    postings: &[u8],
+    len: usize,
+) -> bool
+    requires { ⌜ Checked (now ids) (now freqs) ⌝ }
+    ensures { λ r. ⌜ r ≡ listFits option (now (ids .entry)) (now (freqs .entry)) (now (skips .entry)) (now (postings .entry)) len ⌝ }
+{
+    let entries = entries_size(option, ids);
+    let size = blocks_size(option, ids, freqs);
+    list_fits(option, ids, freqs, entries, size, skips, postings, len)
+}
+
+// Every question of a whole list under an announced count: as `write_list` asks them, with 14 for another count behind those of the
+// documents. Nothing is written.
+pub fn ask_list(
+    mode: u8,
+    recording: bool,
+    ids: &[u32],
+    freqs: &[u32],
+    announced: usize,
+    skips: &[u8],
+    postings: &[u8],
+    output: &[u8],
+) -> Accepted
+    ensures { λ r. ⌜ r ≡ accepted (announcing mode recording announced (now (ids .entry)) (now (freqs .entry))
+        (now (skips .entry)) (now (postings .entry)) (now (output .entry))) ⌝ }
+{
+    let asked = ask_docs(mode, recording, ids, freqs);
+    let Accepted::Yes = asked else {
+        return asked;
+    };
+    if ids.len() != announced {
+        return Accepted::Refused(COUNT_MISMATCH);
+    }
+    let option = record_option(mode, recording);
+    if !has_room(option, ids, freqs, skips, postings, output.len()) {
+        return Accepted::Refused(NO_ROOM);
+    }
+    Accepted::Yes
+}
+
 // Writes a whole list: its image to the front of the output, the entries and the blocks of its full blocks to the fronts of the two
 // areas. Where it answers a refusal, nothing is written.
 pub fn write_list(
@@ -312,16 +371,10 @@ pub fn write_list(
     ensures { λ r. ⌜ Listed mode recording (now (ids .entry)) (now (freqs .entry)) (now (skips .entry)) (now (postings .entry)) (now (output .entry))
         (now (skips .exit)) (now (postings .exit)) (now (output .exit)) r ⌝ }
 {
-    if 1 < mode {
-        return Written::Refused(UNKNOWN_MODE);
-    }
-    if ids.len() != freqs.len() {
-        return Written::Refused(COUNT_MISMATCH);
-    }
-    let option = record_option(mode, recording);
-    let checked = check_docs(option, ids, freqs);
-    if let Accepted::Refused(n) = checked {
+    let asked = ask_docs(mode, recording, ids, freqs);
+    if let Accepted::Refused(n) = asked {
         return Written::Refused(n);
     }
+    let option = record_option(mode, recording);
     write_checked(option, ids, freqs, skips, postings, output)
 }

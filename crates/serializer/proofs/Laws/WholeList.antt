@@ -7,11 +7,11 @@ use mathlib.Core.Logic.{_↔_}
 use mathlib.Core.Path.{_≡_, refl, sym, _∙_}
 use Prim.Native.Nat.{ℕ, _/_, _≤_, _^_}
 use native.Mathlib.Nat.{zero-add}
-use borrow.Author.Tests.{le-leb, leb-true}
-use lib.Dec.{ltb}
+use borrow.Author.Tests.{le-leb, leb-true, eq-eqb, eqb-true}
+use lib.Dec.{eqb, ltb}
 use lib.ListN.{length}
 use Rattle.format.specs.Basics.{ok, andThen, ask, fitsAt, AllBelow}
-use Rattle.format.specs.Refusal.{noRoom}
+use Rattle.format.specs.Refusal.{countMismatch, noRoom}
 use Rattle.format.specs.SkipEntry.{hasFreq}
 use Rattle.format.specs.Written.{Parts}
 use Rattle.format.specs.Accepted.{keptIn, written}
@@ -19,7 +19,7 @@ use Rattle.format.specs.Reading.{reading, soundness}
 use Rattle.format.specs.ReadsBack.{readFreqs, ReadsBack}
 use Rattle.format.proofs.Outcome.{ok-same, ask-ok, andThen-ok}
 use Rattle.format.proofs.ReadsBack.{reads-back, written-sound}
-use Rattle.serializer.specs.Writer.{blocksOf, listing}
+use Rattle.serializer.specs.Writer.{blocksOf, listing, announcing}
 
 -- room for a list's full blocks and their entries in the areas, and for its image in the output
 pub record HasRoom (mode : ℕ) (recording : Bool) (ds fs skips postings output image : List ℕ) : Type 0 where
@@ -38,6 +38,11 @@ module _ (mode : ℕ) (recording : Bool) (ds fs skips postings output : List ℕ
       ≡ (andThen (written mode recording ds fs) λ image. ask (fit image) noRoom λ _. ok image)
   unfolding listing
   listing-is = refl
+
+  pub announcing-is : (announced : ℕ) → announcing mode recording announced ds fs skips postings output
+      ≡ (andThen (written mode recording ds fs) λ _. ask (eqb (length ds) announced) countMismatch λ _. listing mode recording ds fs skips postings output)
+  unfolding announcing
+  announcing-is announced = refl
 
   fit-room : {image : List ℕ} → fit image ≡ true → HasRoom mode recording ds fs skips postings output image
   unfolding fitsAt
@@ -62,6 +67,18 @@ module _ (mode : ℕ) (recording : Bool) (ds fs skips postings output : List ℕ
       ↔ ((written mode recording ds fs ≡ ok image) × HasRoom mode recording ds fs skips postings output image)
   unfolding andThen ask
   whole-list-writes = (listing-ok, λ w. rw (listing-is, w .0, room-fit (w .1)))
+
+  -- .. and under an announced count exactly where that is the list's own
+  pub announced-writes : (announced : ℕ) {image : List ℕ} → (announcing mode recording announced ds fs skips postings output ≡ ok image)
+      ↔ ((announced ≡ length ds) × (listing mode recording ds fs skips postings output ≡ ok image))
+  unfolding andThen ask
+  announced-writes announced = (
+    λ e.
+        let p = andThen-ok (written mode recording ds fs) _ (sym (announcing-is announced) ∙ e) in
+        let q = ask-ok (eqb (length ds) announced) countMismatch _ (p .2) in
+        (sym (eqb-true (length ds) announced (q .0)), q .1),
+    λ p. rw (announcing-is, listing-ok (p .1) .0, eq-eqb (length ds) announced (sym (p .0))) (p .1),
+  )
 
   -- promise 2: what is written is admitted ..
   pub whole-list-sound : {image : List ℕ} → AllBelow (2 ^ 32) fs → listing mode recording ds fs skips postings output ≡ ok image

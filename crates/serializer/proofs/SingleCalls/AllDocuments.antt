@@ -33,7 +33,7 @@ takeDocs-cons : (option : IndexRecordOption) (least d : ℕ) (ds : List ℕ) (f 
 unfolding takeDocs
 takeDocs-cons option least d ds f fs = refl
 
-takeAll-cons : (s : PostingsSerializer) (d : ℕ) (ds : List ℕ) (f : ℕ) (fs skips postings : List ℕ)
+pub takeAll-cons : (s : PostingsSerializer) (d : ℕ) (ds : List ℕ) (f : ℕ) (fs skips postings : List ℕ)
     → takeAll s (d ∷ ds) (f ∷ fs) skips postings
     ≡ andThen (taking s d f skips postings) λ a. takeAll (a .state) ds fs (a .skips) (a .postings)
 unfolding takeAll

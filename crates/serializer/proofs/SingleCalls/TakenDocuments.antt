@@ -93,13 +93,6 @@ module _ (mode : ℕ) (recording : Bool) (skips postings : List ℕ) (known : mo
       (takeAll (fresh mode recording) ds fs skips postings)
   accepted-calls ds fs small as-many t = rw (room-is ds fs t, t) at (answers mode recording ds fs skips postings small known as-many)
 
-  -- documents that are accepted together are all taken where their blocks fit
-  pub all-taken : (ds fs : List ℕ) → AllBelow (2 ^ 32) fs → length ds ≡ length fs → {least : ℕ} → takeDocs option 0 ds fs ≡ ok least
-      → blocksFit option ds fs skips postings ≡ true → (a : Areas) × (takeAll (fresh mode recording) ds fs skips postings ≡ ok a)
-  all-taken ds fs small as-many t fit =
-      let ended = answers-ok (accepted-calls ds fs small as-many t) fit refl in
-      (ended .areas, ended .answer)
-
   module _ (ds fs : List ℕ) (small : AllBelow (2 ^ 32) fs) (as-many : length ds ≡ length fs) where
     -- one document more, behind calls that ended
     module _ {r : Outcome Areas} (ended : Ended (fresh mode recording) ds fs skips postings r) (all : takeAll (fresh mode recording) ds fs skips postings ≡ r)

@@ -5,7 +5,7 @@ use mathlib.Core.Bool.{Bool, true, false, _&&_ as and, and-eq-true-iff}
 use mathlib.Core.List.{List}
 use mathlib.Core.Path.{_≡_, refl, sym, ap, _∙_}
 use Prim.Native.Nat.{ℕ, _≤_, _<_}
-use borrow.Author.Tests.{le-leb, lt-leb, eq-eqb, ne-eqb}
+use borrow.Author.Tests.{le-leb, lt-leb, eq-eqb, ne-eqb, eqb-true}
 use lib.Dec.{leb, eqb}
 use lib.ListN.{length, take}
 use Rattle.format.specs.declared.IndexRecordOption.{IndexRecordOption}
@@ -14,11 +14,15 @@ use Rattle.format.specs.Refusal.{unknownMode, countMismatch, noRoom}
 use Rattle.format.specs.Written.{image}
 use Rattle.format.specs.Accepted.{keptIn, begin, takeDocs, written}
 use Rattle.format.proofs.Area.{length-putAt}
+use Rattle.format.proofs.Outcome.{ok-same, ask-ok, andThen-ok}
+use Rattle.serializer.specs.declared.Accepted.the-variants.{Yes, Refused as No}
 use Rattle.serializer.specs.declared.Written.{Written}
 use Rattle.serializer.specs.declared.Written.the-variants.{Bytes, Refused}
-use Rattle.serializer.specs.Calls.{answered, ImagePut, Listed}
-use Rattle.serializer.specs.Whole.{ListSized, PartsThere, fullBlocks, imageFrom, blocksFit, listFits, BlocksPut, ListPut}
-use Rattle.serializer.specs.Writer.{listing}
+use Rattle.serializer.specs.Calls.{accepted, answered, ImagePut, ListLeft, Listed}
+use Rattle.serializer.specs.Whole.{Checked, ListSized, PartsThere, fullBlocks, imageFrom, blocksFit, listFits, BlocksPut, ListPut}
+use Rattle.serializer.specs.Writer.{listing, announcing}
+use Rattle.serializer.proofs.Laws.WholeList.{announcing-is}
+use Rattle.serializer.proofs.list.CheckLoop.{taken-rises}
 use Rattle.serializer.proofs.Laws.BlockPlaces.{image-from, front-fits, blocks-room, listFits-is, put-front}
 
 -- ---- an outcome that hangs on one question
@@ -58,36 +62,93 @@ listing-is : (mode : ℕ) (recording : Bool) (ds fs skips postings output : List
 unfolding listing blocksFit fullBlocks
 listing-is mode recording ds fs skips postings output = refl
 
+-- ---- what an outcome answers
+
+module _ {A : Type 0} {o : Outcome A} where
+  pub answers-no : {n : ℕ} → o ≡ refused n → No n ≡ accepted o
+  unfolding accepted
+  answers-no e = rw e
+
+  pub answers-yes : {a : A} → o ≡ ok a → Yes ≡ accepted o
+  unfolding accepted
+  answers-yes e = rw e
+
+-- ---- the questions of the documents
+
+then-accepted : {A B : Type 0} (b : B) (o : Outcome A) → accepted o ≡ accepted (andThen o λ _. ok b)
+unfolding accepted andThen
+then-accepted b (ok a) = refl
+then-accepted b (refused n) = refl
+
+module _ (mode : ℕ) (recording : Bool) (ds fs : List ℕ) where
+  pub mode-unknown : 1 < mode → accepted (written mode recording ds fs) ≡ No unknownMode
+  unfolding accepted andThen ask
+  mode-unknown h = rw (written-is, begin-is, lt-leb mode 1 h)
+
+  pub lengths-differ : mode ≤ 1 → (length ds ≡ length fs → ⊥) → accepted (written mode recording ds fs) ≡ No countMismatch
+  unfolding accepted andThen ask
+  lengths-differ known h = rw (written-is, begin-is, le-leb mode 1 known, ne-eqb _ _ h)
+
+  pub docs-asked : mode ≤ 1 → length ds ≡ length fs
+      → accepted (takeDocs (keptIn mode recording) 0 ds fs) ≡ accepted (written mode recording ds fs)
+  unfolding andThen ask
+  docs-asked known same = rw (written-is, begin-is, le-leb mode 1 known, eq-eqb _ _ same) (then-accepted (image (keptIn mode recording) ds fs) _)
+
+  -- a list that passed them
+  pub checked : {bytes : List ℕ} → written mode recording ds fs ≡ ok bytes → Checked ds fs × (bytes ≡ image (keptIn mode recording) ds fs)
+  checked e =
+      let p = andThen-ok _ _ (sym (written-is mode recording ds fs) ∙ e) in
+      let option = ok-same (ask-ok _ _ _ (sym (begin-is mode recording) ∙ p .1) .1) in
+      let same = ask-ok _ _ _ (p .2) in
+      let taken = andThen-ok _ _ (same .1) in
+      (record { rises = taken-rises _ 0 _ _ (taken .1); as-many = eqb-true _ _ (same .0) }, sym (ok-same (taken .2)) ∙ rw option)
+
 -- ---- where a question is answered no
 
+-- nothing is written
+pub left-refused : {o : Outcome (List ℕ)} {n : ℕ} (option : IndexRecordOption) (ds fs skips postings output : List ℕ) → o ≡ refused n
+    → ListLeft o option ds fs skips postings output skips postings output (Refused n)
+unfolding answered orBefore
+left-refused option ds fs skips postings output e = record { answer = rw e; skips-after = rw e; postings-after = rw e; output-after = rw e }
+
+-- .. nor where the documents' questions are
 module _ (mode : ℕ) (recording : Bool) (ds fs skips postings output : List ℕ) where
-  pub listed-refused : {n : ℕ} → listing mode recording ds fs skips postings output ≡ refused n
-      → Listed mode recording ds fs skips postings output skips postings output (Refused n)
-  unfolding answered orBefore
-  listed-refused e = record { answer = rw e; skips-after = rw e; postings-after = rw e; output-after = rw e }
+  pub listing-refused : {n : ℕ} → written mode recording ds fs ≡ refused n → listing mode recording ds fs skips postings output ≡ refused n
+  unfolding andThen
+  listing-refused e = rw (listing-is, e)
 
-  pub mode-unknown : 1 < mode → listing mode recording ds fs skips postings output ≡ refused unknownMode
-  unfolding andThen ask
-  mode-unknown h = rw (listing-is, written-is, begin-is, lt-leb mode 1 h)
+  -- behind them only the room is asked for
+  pub listing-room : {bytes : List ℕ} → written mode recording ds fs ≡ ok bytes
+      → listing mode recording ds fs skips postings output
+      ≡ (ask (listFits (keptIn mode recording) ds fs skips postings (length output)) noRoom λ _. ok (image (keptIn mode recording) ds fs))
+  unfolding andThen
+  listing-room e = rw (listing-is, e, checked mode recording ds fs e .1, listFits-is, front-fits (image (keptIn mode recording) ds fs) output)
 
-  module _ (known : mode ≤ 1) where
-    pub lengths-differ : (length ds ≡ length fs → ⊥) → listing mode recording ds fs skips postings output ≡ refused countMismatch
-    unfolding andThen ask
-    lengths-differ h = rw (listing-is, written-is, begin-is, le-leb mode 1 known, ne-eqb _ _ h)
+  module _ (announced : ℕ) where
+    pub announcing-refused : {n : ℕ} → written mode recording ds fs ≡ refused n
+        → announcing mode recording announced ds fs skips postings output ≡ refused n
+    unfolding andThen
+    announcing-refused e = rw (announcing-is, e)
 
-    module _ (same : length ds ≡ length fs) where
-      pub docs-refused : {n : ℕ} → takeDocs (keptIn mode recording) 0 ds fs ≡ refused n
-          → listing mode recording ds fs skips postings output ≡ refused n
+    module _ {bytes : List ℕ} (e : written mode recording ds fs ≡ ok bytes) where
+      pub miscounted : (length ds ≡ announced → ⊥) → announcing mode recording announced ds fs skips postings output ≡ refused countMismatch
       unfolding andThen ask
-      docs-refused e = rw (listing-is, written-is, begin-is, le-leb mode 1 known, eq-eqb _ _ same, e)
+      miscounted h = rw (announcing-is, e, ne-eqb _ _ h)
 
-      -- .. and where it isn't, what is left
-      pub docs-taken : {next : ℕ} → takeDocs (keptIn mode recording) 0 ds fs ≡ ok next
-          → listing mode recording ds fs skips postings output
+      pub announcing-room : length ds ≡ announced
+          → announcing mode recording announced ds fs skips postings output
           ≡ (ask (listFits (keptIn mode recording) ds fs skips postings (length output)) noRoom λ _. ok (image (keptIn mode recording) ds fs))
       unfolding andThen ask
-      docs-taken e =
-          rw (listing-is, written-is, begin-is, le-leb mode 1 known, eq-eqb _ _ same, e, listFits-is, front-fits (image (keptIn mode recording) ds fs) output)
+      announcing-room h = rw (announcing-is, e, eq-eqb _ _ h) (listing-room e)
+
+      module _ (h : length ds ≡ announced) {b : Bool} (fits : b ≡ listFits (keptIn mode recording) ds fs skips postings (length output)) where
+        pub no-room : b ≡ false → announcing mode recording announced ds fs skips postings output ≡ refused noRoom
+        unfolding ask
+        no-room f = announcing-room h ∙ rw (sym fits ∙ f)
+
+        pub with-room : b ≡ true → announcing mode recording announced ds fs skips postings output ≡ ok (image (keptIn mode recording) ds fs)
+        unfolding ask
+        with-room t = announcing-room h ∙ rw (sym fits ∙ t)
 
 -- ---- where all are answered yes
 
