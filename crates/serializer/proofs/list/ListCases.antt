@@ -13,7 +13,7 @@ use Rattle.format.specs.Basics.{Outcome, ok, refused, andThen, ask, choose, fit
 use Rattle.format.specs.Refusal.{unknownMode, countMismatch, noRoom}
 use Rattle.format.specs.Written.{image}
 use Rattle.format.specs.Accepted.{keptIn, begin, takeDocs, written}
-use Rattle.format.proofs.Area.{length-putAt}
+use Rattle.format.proofs.Area.{length-putAt, take-putAt-front}
 use Rattle.format.proofs.Outcome.{ok-same, ask-ok, andThen-ok}
 use Rattle.serializer.specs.declared.Accepted.the-variants.{Yes, Refused as No}
 use Rattle.serializer.specs.declared.Written.{Written}
@@ -23,7 +23,7 @@ use Rattle.serializer.specs.Whole.{Checked, ListSized, PartsThere, fullB
 use Rattle.serializer.specs.Writer.{listing, announcing}
 use Rattle.serializer.proofs.Laws.WholeList.{announcing-is}
 use Rattle.serializer.proofs.list.CheckLoop.{taken-rises}
-use Rattle.serializer.proofs.Laws.BlockPlaces.{image-from, front-fits, blocks-room, listFits-is, put-front}
+use Rattle.serializer.proofs.Laws.BlockPlaces.{image-from, front-fits, blocks-room, listFits-is}
 
 -- ---- an outcome that hangs on one question
 
@@ -181,7 +181,7 @@ module _ (option : IndexRecordOption) (ds fs skips postings output : List ℕ) w
       image-there : imageFrom option ds fs (take entries skips′) (take size postings′) ≡ image option ds fs
       image-there =
           let all = blocks-room option ds fs skips postings blocks-fit in
-          rw (blocks .skips-after, blocks .postings-after, sized .entries-are, sized .size-is, put-front _ skips (all .0), put-front _ postings (all .1), ← image-from)
+          rw (blocks .skips-after, blocks .postings-after, sized .entries-are, sized .size-is, take-putAt-front _ skips (all .0), take-putAt-front _ postings (all .1), ← image-from)
 
       pub put-all : {output′ : List ℕ} {r : Written} → ImagePut (imageFrom option ds fs (take entries skips′) (take size postings′)) output output′ r
           → ListPut option ds fs skips postings output skips′ postings′ output′ r
