@@ -13,17 +13,17 @@ use borrow.Author.Tests.{le-leb, leb-true, eq-eqb, eqb-true}
 use lib.Dec.{eqb, ltb}
 use lib.ListN.{length, take}
 use Rattle.format.specs.declared.IndexRecordOption.{IndexRecordOption}
-use Rattle.format.specs.Basics.{Outcome, ok, refused, andThen, ask, orBefore, fitsAt, putAt}
+use Rattle.format.specs.Basics.{Outcome, ok, refused, andThen, ask, orBefore, fitsAt, putAt, AllBelow}
 use Rattle.format.specs.Refusal.{noRoom, countMismatch}
 use Rattle.format.specs.Accepted.{keptIn, begin, takeDoc, takeDocs, written}
 use Rattle.format.specs.Reading.{reading, soundness}
+use Rattle.format.specs.ReadsBack.{readFreqs, ReadsBack}
 use Rattle.format.specs.SkipEntry.{hasFreq}
 use Rattle.format.specs.Written.{image}
+use Rattle.format.proofs.Area.{take-putAt-front}
 use Rattle.format.proofs.Accepted.{takeDoc-ok, written-ok}
-use Rattle.format.proofs.Lists.{AllBelow}
 use Rattle.format.proofs.Outcome.{refused≢ok, ok-same, ask-ok, andThen-ok}
-use Rattle.format.proofs.ReadFreqs.{readFreqs}
-use Rattle.format.proofs.ReadsBack.{ReadsBack, reads-back, written-sound}
+use Rattle.format.proofs.ReadsBack.{reads-back, written-sound}
 use Rattle.serializer.specs.declared.Accepted.{Accepted}
 use Rattle.serializer.specs.declared.Accepted.the-variants.{Yes, Refused}
 use Rattle.serializer.specs.declared.ClosedTerm.{ClosedTerm}
@@ -33,7 +33,7 @@ use Rattle.serializer.specs.declared.Step.{Step}
 use Rattle.serializer.specs.Calls.{accepted, answered, beginning, Settled, Took, Closed}
 use Rattle.serializer.specs.Whole.{fullBlocks, blocksFit}
 use Rattle.serializer.specs.Writer.{Areas, fresh, begun, taking, takeAll, listing}
-use Rattle.serializer.proofs.Laws.BlockPlaces.{front-fits, blocks-room, put-front}
+use Rattle.serializer.proofs.Laws.BlockPlaces.{front-fits, blocks-room}
 use Rattle.serializer.proofs.Laws.WholeList.{whole-list-writes}
 use Rattle.serializer.proofs.SingleCalls.TakenDocuments.{TakenAll, taken-all}
 use Rattle.serializer.proofs.SingleCalls.WritesList.{single-calls-write}
@@ -177,7 +177,7 @@ module _ (mode : ℕ) (recording : Bool) (skips postings : List ℕ) (known : mo
           let k = closes in
           let is = rw (eq-eqb (length ids) announced (sym (k .0)), room-front (image option ids freqs) output (k .1)) at (behind .closes announced output) in
           let out = rw is at (closed .output-after) in
-          ap (λ m. take m output′) (k .2) ∙ ap (take (length (image option ids freqs))) out ∙ put-front (image option ids freqs) output (k .1)
+          ap (λ m. take m output′) (k .2) ∙ ap (take (length (image option ids freqs))) out ∙ take-putAt-front (image option ids freqs) output (k .1)
 
       closed-written : written mode recording ids freqs ≡ ok (take n output′)
       unfolding written begin andThen ask
@@ -213,7 +213,7 @@ taken-whole (x ∷ answers) [] e granted = absurd (omega arith)
 taken-whole (Yes ∷ answers) (d ∷ ds) e granted = ap (λ l. d ∷ l) (taken-whole answers ds (omega arith) granted)
 taken-whole (Refused n ∷ answers) (d ∷ ds) e granted = absurd (false≢true granted)
 
-settled-ok : {o : Outcome Areas} {s : PostingsSerializer} {skips postings skips′ postings′ : List ℕ} {r : Step} {a : Areas}
+pub settled-ok : {o : Outcome Areas} {s : PostingsSerializer} {skips postings skips′ postings′ : List ℕ} {r : Step} {a : Areas}
     → Settled o s skips postings skips′ postings′ r → o ≡ ok a → (r .answer ≡ Yes) × (areasOf (r .state) skips′ postings′ ≡ a)
 unfolding accepted orBefore
 settled-ok h e =

@@ -12,16 +12,16 @@ use native.Mathlib.Omega.{arith}
 use lib.ListN.{length, take, drop, length-append, length-drop}
 use Rattle.format.specs.declared.IndexRecordOption.{IndexRecordOption}
 use Rattle.format.specs.declared.IndexRecordOption.the-variants.{Basic, WithFreqs}
-use Rattle.format.specs.Basics.{ok, lastOf, TERMINATED}
+use Rattle.format.specs.Basics.{ok, lastOf, AllBelow, TERMINATED}
 use Rattle.format.specs.Bitpacking.{width, bitsF, largest}
 use Rattle.format.specs.SkipEntry.{hasFreq, entrySize}
 use Rattle.format.specs.Values.{gaps, rising}
 use Rattle.format.specs.Vint.{vints}
 use Rattle.format.specs.Written.{onlyIf, Parts, headed, image}
-use Rattle.format.specs.Accepted.{keptIn, written}
-use Rattle.format.proofs.Accepted.{Accepted, accepted-length, written-ok}
+use Rattle.format.specs.Accepted.{keptIn, written, Accepted}
+use Rattle.format.proofs.Accepted.{accepted-length, written-ok}
 use Rattle.format.proofs.Bitpacking.{width-le, width-least}
-use Rattle.format.proofs.Lists.{AllBelow, allBelow-le}
+use Rattle.format.proofs.Lists.{allBelow-le}
 use Rattle.format.proofs.Opened.{headed-zero, headed-suc}
 use Rattle.format.proofs.Values.{length-gaps, gaps-below, rising-take, rising-drop}
 use Rattle.format.proofs.Vints.{vint-length-le, vints-length-le}

@@ -10,11 +10,10 @@ use native.Mathlib.Omega.{arith}
 use lib.Dec.{eqb}
 use lib.ListN.{length, length-append}
 use Rattle.format.specs.declared.IndexRecordOption.{IndexRecordOption}
-use Rattle.format.specs.Basics.{Outcome, ok, refused, andThen, ask, putAt, fitsAt}
+use Rattle.format.specs.Basics.{Outcome, ok, refused, andThen, ask, putAt, fitsAt, AllBelow}
 use Rattle.format.specs.Refusal.{noRoom, countMismatch}
 use Rattle.format.specs.Written.{image}
 use Rattle.format.specs.Accepted.{keptIn, takeDoc, takeDocs}
-use Rattle.format.proofs.Lists.{AllBelow}
 use Rattle.format.proofs.Outcome.{ok-same}
 use Rattle.serializer.specs.declared.PostingsSerializer.{PostingsSerializer}
 use Rattle.serializer.specs.Calls.{accepted}
