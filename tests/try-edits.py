@@ -32,6 +32,8 @@ MISFITS = re.compile(
     r"\.(?:Lts|Tie)\.(?:After|Left|Need)-\S+`\s+\((?:expected|found)\)|"
     r"differ only where one has `\S*\.(?:Lts|Tie)\.(?:After|Left|Need)-"
 )
+# What is said of a function that has no proof file, since its facts are found by search, where one isn't found.
+UNFOUND = re.compile(r"^(fn \S+): no proof: .*(`search` does not close .*)$", re.M)
 
 
 def check(copy, crate):
@@ -58,10 +60,11 @@ def judged(said):
         return False, "NOT REFUSED"
     errors = [(place, text) for place, text in ERROR.findall(said) if not FOLLOWS.search(text)]
     misfits = [error for error in errors if not error[0].split(":")[0].endswith(".antt") or MISFITS.search(error[1])]
-    if misfits or not errors:
+    unfound = UNFOUND.findall(said)
+    if misfits or not (errors or unfound):
         place, text = (misfits or [("", said[-200:])])[0]
         return False, f"NO FACT FAILS, {place} {' '.join(text.split())[:200]}"
-    place, text = errors[0]
+    place, text = (errors or unfound)[0]
     return True, f"refused, {place} {' '.join(text.split())[:120]}"
 
 

@@ -5,11 +5,11 @@ use mathlib.Core.Bool.{Bool, true, false, _&&_ as and}
 use mathlib.Core.List.{List, _++_}
 use Prim.Native.Nat.{ℕ, _*_, _≤_, _<_}
 use borrow.Author.Tests.{leb-true, lt-leb, le-leb}
-use native.Mathlib.Nat.{zero-add}
 use lib.ListN.{length, drop}
 use lib.Dec.{leb}
 use Rattle.format.specs.Basics.{choose, putAt}
 use Rattle.format.specs.Bitpacking.{pack, packedAt, unpack}
+use Rattle.format.proofs.Area.{putAt-front}
 use Rattle.format.proofs.Bitpacking.{pack-length}
 use Rattle.bitpacking.specs.Packed.{roomFor, filled, Unpacked, Packed}
 
@@ -38,11 +38,6 @@ pub unpacked : (w : ℕ) (bytes before after : List ℕ) → roomFor w (length b
 unfolding choose
 unpacked w bytes before after e same = record { answer = rw e; values = rw e same }
 
--- bytes at the front of an area that has room for them
-put-front : (bs area : List ℕ) → length bs ≤ length area → putAt 0 bs area ≡ bs ++ drop (length bs) area
-unfolding putAt
-put-front bs area h = rw (zero-add (length bs), le-leb (length bs) (length area) h)
-
 pub not-packed : (w : ℕ) (values area : List ℕ) → roomFor w (length area) ≡ false → Packed w values area area false
 unfolding choose
 not-packed w values area e = record { answer = rw e; bytes = rw e }
@@ -56,7 +51,7 @@ filled-front : (w : ℕ) (values area : List ℕ) → 16 * w ≤ length area →
 filled-front w values area h =
     filled-pack w values area
     ∙ ap (λ (n : ℕ). pack w values ++ drop n area) (sym (pack-length w values))
-    ∙ sym (put-front (pack w values) area (rw (pack-length w values) h))
+    ∙ sym (putAt-front (pack w values) area (rw (pack-length w values) h))
 
 pub packed :
     (w : ℕ) (values before after : List ℕ) → roomFor w (length before) ≡ true → after ≡ filled (16 * w) (packedAt w values) before

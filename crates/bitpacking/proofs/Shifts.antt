@@ -1,5 +1,4 @@
 -- Shifts, `|` and masks on 32-bit words, as sums, quotients and remainders.
---     or-above      a word put above lower bits is a sum
 --     masked-shift  a value put above other bits
 --     two-words     a value that begins at bit o of a word and may go on in the next, taken out by shifts, `|` and a mask
 --     mask-ones     the mask of w ones
@@ -12,9 +11,6 @@ use lib.Dec.{lit<}
 use native.Mathlib.Omega.{arith}
 use lib.Bits.{bitOr, bitAnd, or-shifted-r, and-mask}
 use lib.Pow.{pow-pos, pow-lt, pow-add, mod-pow-add, shl-shr, shl-lt, shr-lt, pow-mono, ones-split, ones-lt, high}
-
-pub or-above : (k a b : ℕ) → a < 2 ^ k → b * 2 ^ k < 2 ^ 32 → bitOr a (b * 2 ^ k % 2 ^ 32) ≡ a + 2 ^ k * b
-or-above k a b ha hb = rw (mod-eq-of-lt hb, or-shifted-r b k a ha, mul-comm b (2 ^ k)) (add-comm (2 ^ k * b) a)
 
 -- a remainder may be taken before a product
 mod-mul-mod : (x y m : ℕ) → x % m * y % m ≡ x * y % m

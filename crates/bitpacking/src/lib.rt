@@ -1,24 +1,19 @@
 // 128 values at one width, in four lanes of 32-bit words: `BitPacker4x` of the Rust crate bitpacking, whose packed form document 01 gives.
 
+use common::u32_from_le_bytes;
+use common::u32_to_le_bytes;
 ghost use mathlib.Core.Path.{_≡_};
 ghost use Prim.Native.Nat.{ℕ, _+_, _-_, _*_, _/_, _%_, _^_, _≤_, _<_, max};
 ghost use lib.ListN.{length};
-ghost use Rattle.format.specs.Basics.{word};
+ghost use Rattle.format.specs.Basics.{fourBytes, word};
 ghost use Rattle.format.specs.Bitpacking.{unpackedAt, packedAt, largest, width};
 ghost use Rattle.format.specs.Bitpacking as packing;
 ghost use Rattle.bitpacking.specs.Packed.{roomFor, Unpacked, Packed, BlockThere, RowThere, Fills, WordIs, WordsAre, LanesAt, RowPacks, RowAdded, wordsTaken, filled, fromWords};
 
-// The number whose bytes are a, b, c, d, lowest first. The compiler makes one load of it where they lie side by side.
-pub fn u32_from_le_bytes(a: u8, b: u8, c: u8, d: u8) -> u32
-    ensures { λ r. ⌜ r ≡ a + 256 * b + 65536 * c + 16777216 * d ⌝ }
-{
-    (a as u32) | ((b as u32) << 8) | ((c as u32) << 16) | ((d as u32) << 24)
-}
-
 // The word at byte p.
 fn word_at(bytes: &[u8], p: usize) -> u32
     requires { ⌜ p + 4 ≤ length (now bytes) ⌝ }
-    ensures { λ r. ⌜ r ≡ word (now (bytes .entry)) p ⌝ }
+    ensures { λ r. ⌜ r ≡ fourBytes (now (bytes .entry)) p ⌝ }
 {
     u32_from_le_bytes(bytes[p], bytes[p + 1], bytes[p + 2], bytes[p + 3])
 }
@@ -114,10 +109,11 @@ fn put_word(area: &mut [u8], p: usize, x: u32)
     requires { ⌜ p + 4 ≤ length (now area) ⌝ }
     ensures { λ _. ⌜ ((f : ℕ → ℕ) → WordIs f p x → Fills p (p + 4) f (now (area .entry)) (now (area .exit))) ⌝ }
 {
-    area[p] = (x % 256) as u8;
-    area[p + 1] = (x / 256 % 256) as u8;
-    area[p + 2] = (x / 65536 % 256) as u8;
-    area[p + 3] = (x / 16777216 % 256) as u8;
+    let bytes = u32_to_le_bytes(x);
+    area[p] = bytes[0];
+    area[p + 1] = bytes[1];
+    area[p + 2] = bytes[2];
+    area[p + 3] = bytes[3];
 }
 
 // The low 32 bits.

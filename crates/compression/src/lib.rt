@@ -1,7 +1,6 @@
-// The values of a block, their packed size, and bytes put into a lent area: the port of compression/mod.rs, less the packer
-// (crate bitpacking) and the tail's numbers (crate vint).
+// The values of a block and their packed size: the port of compression/mod.rs, less the packer (crate bitpacking) and the tail's
+// numbers (crate vint).
 
-pub mod area;
 pub mod values;
 
 ghost use mathlib.Core.Path.{_≡_};

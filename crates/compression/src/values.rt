@@ -1,8 +1,10 @@
 // A block's ids and frequencies, and the values that stand for them in the strict form and in the non-strict one.
+
+use common::difference;
 use format::TERMINATED;
 ghost use mathlib.Core.Path.{_≡_};
 ghost use mathlib.Core.Bool.{true};
-ghost use Prim.Native.Nat.{_-_, _≤_, _<_, _^_, min};
+ghost use Prim.Native.Nat.{_≤_, _<_, _^_, min};
 ghost use lib.ListN.{length};
 ghost use Rattle.format.specs.Values as specs;
 ghost use Rattle.compression.specs.Restored.{ending, Summed, RestoredFrom, DocsRestored, FreqsRestored};
@@ -11,13 +13,6 @@ ghost use Rattle.compression.specs.Restored.{ending, Summed, RestoredFro
 pub enum Restored {
     Rising(u32),
     NotRising,
-}
-
-// a - b, 0 where b is larger.
-fn difference(a: u32, b: u64) -> u32
-    ensures { λ r. ⌜ r ≡ a - b ⌝ }
-{
-    if b <= a as u64 { a - b as u32 } else { 0 }
 }
 
 // How many places of a block n values take.

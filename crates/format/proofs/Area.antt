@@ -4,12 +4,12 @@
 use mathlib.Core.Path.{_≡_, sym}
 use mathlib.Core.List.{List, [], _∷_, _++_, append-assoc}
 use Prim.Native.Nat.{ℕ, suc, _+_, _≤_, _<_}
-use native.Mathlib.Nat.{add-zero, add-suc, suc-add}
+use native.Mathlib.Nat.{add-zero, zero-add, add-suc, suc-add}
 use native.Mathlib.Decide.{decLe}
 use native.Mathlib.Numerals.{add-one}
 use native.Mathlib.Omega.{arith}
-use lib.ListN.{length, set, length-append, length-set}
-use lib.Seq.{sets, sets-eq, length-sets, paste, take-length}
+use lib.ListN.{length, take, drop, set, length-append, length-set}
+use lib.Seq.{sets, sets-eq, length-sets, paste, take-length, take-append-seam}
 use borrow.Author.Tests.{le-leb, lt-leb}
 use Rattle.format.specs.declared.Next.the-variants.{At, Refused}
 use Rattle.format.specs.Basics.{choose, fitsAt, putAt, nextAt}
@@ -49,6 +49,15 @@ module _ (p : ℕ) (bs area : List ℕ) where
         | yes h ↦ rw (putAt-fits h) (length-sets area p bs)
         | no h ↦ rw (putAt-refused (omega arith))
       ]
+
+-- bytes at the front of an area that has room for them, and what is then read there
+module _ (bs area : List ℕ) (h : length bs ≤ length area) where
+  pub putAt-front : putAt 0 bs area ≡ bs ++ drop (length bs) area
+  unfolding putAt choose fitsAt
+  putAt-front = rw (zero-add, le-leb _ _ h)
+
+  pub take-putAt-front : take (length bs) (putAt 0 bs area) ≡ bs
+  take-putAt-front = rw putAt-front (take-append-seam bs _)
 
 -- no bytes change nothing
 pub putAt-nil : (p : ℕ) (area : List ℕ) → putAt p [] area ≡ area

@@ -51,9 +51,13 @@ abbrev pub AllBelow : ℕ → List ℕ → Type 0
 AllBelow m [] = Unit {0}
 AllBelow m (n ∷ ns) = (n < m) × AllBelow m ns
 
--- the 32-bit number at place p, lowest byte first
+-- the four bytes from place p on as a number, lowest first
+abbrev pub fourBytes : List ℕ → ℕ → ℕ
+fourBytes bs p = getD bs p 0 + 256 * getD bs (p + 1) 0 + 65536 * getD bs (p + 2) 0 + 16777216 * getD bs (p + 3) 0
+
+-- .. the 32-bit number at place p, whose bytes no goal shows unasked
 unfoldable pub word : List ℕ → ℕ → ℕ
-word bs p = getD bs p 0 + 256 * getD bs (p + 1) 0 + 65536 * getD bs (p + 2) 0 + 16777216 * getD bs (p + 3) 0
+word bs p = fourBytes bs p
 
 -- the four bytes of a 32-bit number, lowest first
 unfoldable pub le32 : ℕ → List ℕ

@@ -13,13 +13,12 @@ use Rattle.format.specs.SkipEntry.{hasFreq}
 use Rattle.format.specs.Accepted.{keptIn, written}
 use Rattle.format.specs.Reading.{reading, docsOf, freqsOf}
 use Rattle.format.specs.ReadsBack.{readFreqs, ReadsBack}
-use Rattle.format.proofs.Area.{length-putAt}
+use Rattle.format.proofs.Area.{length-putAt, take-putAt-front}
 use Rattle.format.proofs.ReadsBack.{reads-back}
 use Rattle.serializer.specs.declared.Answer.{Answer}
 use Rattle.serializer.specs.declared.Answer.the-variants.{Bytes, Refused}
 use Rattle.serializer.specs.Writer as writer
 use Rattle.serializer.specs.Calls.{answered, Listed}
-use Rattle.serializer.proofs.Laws.BlockPlaces.{put-front}
 use Rattle.serializer.proofs.Laws.WholeList.{whole-list-writes}
 use Rattle.listing.specs.declared.table.Parsed.{Parsed}
 use Rattle.listing.specs.declared.table.Parsed.the-variants.{Rows, Malformed}
@@ -58,7 +57,7 @@ module _ (ds fs skips postings area : List ℕ) where
       (record {
         text = listing-ok ds fs (p .0);
         within = rw (length-putAt 0 bytes area) room;
-        back = rw (put-front bytes area room) (back-as ds fs small (p .0));
+        back = rw (take-putAt-front bytes area room) (back-as ds fs small (p .0));
       })
 
   module _ {skips′ postings′ area′ : List ℕ} {r : Answer} (few : length ds ≤ 16384) (small : AllBelow (2 ^ 32) fs)

@@ -3,7 +3,7 @@
 use crate::table::Parsed;
 use crate::table::read_table;
 use crate::text::put_answer;
-use compression::area::put;
+use common::put;
 use format::Term;
 use segment_postings::advance;
 use segment_postings::open;

@@ -1,6 +1,6 @@
 // The lines of a listing.
 
-use compression::area::put;
+use common::put;
 use segment_postings::Answer;
 ghost use Prim.Native.Nat.{_+_, _≤_};
 ghost use lib.ListN.{length};

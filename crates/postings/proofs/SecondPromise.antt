@@ -8,13 +8,11 @@ use mathlib.Core.Bool.{Bool, _&&_ as and}
 use mathlib.Core.List.{List, [], _∷_, map}
 use mathlib.Core.Path.{_≡_, sym, ap, _∙_}
 use Prim.Native.Nat.{ℕ, _+_, _≤_, _<_, _^_}
-use native.Mathlib.Omega.{arith}
 use borrow.Author.Tests.{le-leb, lt-leb, eq-eqb}
 use lib.Dec.{ltb}
 use lib.ListN.{length, take}
-use lib.Seq.{take-append-le, take-length}
 use Rattle.format.specs.declared.Term.{Term}
-use Rattle.format.specs.Basics.{ok, refused, andThen, ask, choose, fitsAt, putAt, TERMINATED, AllBelow}
+use Rattle.format.specs.Basics.{ok, refused, andThen, ask, putAt, TERMINATED, AllBelow}
 use Rattle.format.specs.SkipEntry.{hasFreq}
 use Rattle.format.specs.Refusal.{targetTooLarge}
 use Rattle.format.specs.Written.{image}
@@ -23,6 +21,7 @@ use Rattle.format.specs.Reading.{reading, soundness, docsOf, freqsOf}
 use Rattle.format.specs.Counts.{total, idsBelow, sumBelow}
 use Rattle.format.specs.Model.{answers}
 use Rattle.format.specs.ReadsBack.{readFreqs, ReadsBack}
+use Rattle.format.proofs.Area.{take-putAt-front}
 use Rattle.format.proofs.Accepted.{written-ok}
 use Rattle.format.proofs.Blocks.{docs-many}
 use Rattle.format.proofs.Requested.{sound-requested}
@@ -46,10 +45,6 @@ use Rattle.postings.proofs.FirstPromise.{bytes-answered}
 use Rattle.postings.proofs.ThirdPromise.{third-promise}
 use Rattle.postings.proofs.ValueNumbers.{told, told-refused}
 
-put-front : (xs area : List ℕ) → length xs ≤ length area → take (length xs) (putAt 0 xs area) ≡ xs
-unfolding putAt choose fitsAt
-put-front xs area h = rw (le-leb (0 + length xs) (length area) (omega arith), take-append-le (length xs) xs _ (omega arith), take-length)
-
 module _ (mode : ℕ) (recording : Bool) (ds fs skips postings output : List ℕ) (small : AllBelow (2 ^ 32) fs)
     {skips′ postings′ output′ : List ℕ} {n : ℕ} (listed : Listed mode recording ds fs skips postings output skips′ postings′ output′ (Bytes n)) where
   -- the bytes written are the image
@@ -60,7 +55,7 @@ module _ (mode : ℕ) (recording : Bool) (ds fs skips postings output : List ℕ
       let room = whole-list-writes mode recording ds fs skips postings output .0 (p .1) in
       let out = rw (p .1) at (listed .output-after) in
       let same : take n output′ ≡ p .0 =
-      ap (λ k. take k output′) (p .2) ∙ ap (take (length (p .0))) out ∙ put-front (p .0) output (room .1 .output-fit) in
+      ap (λ k. take k output′) (p .2) ∙ ap (take (length (p .0))) out ∙ take-putAt-front (p .0) output (room .1 .output-fit) in
       (rw same (p .1), same ∙ written-ok mode recording ds fs small (room .0) .bytes)
 
   pub written-bytes : take n output′ ≡ image (keptIn mode recording) ds fs

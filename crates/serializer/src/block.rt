@@ -3,7 +3,7 @@
 use crate::Placed;
 use bitpacking::num_bits;
 use bitpacking::pack;
-use compression::area::within;
+use common::within;
 use compression::compressed_block_size;
 use compression::values::reduce_docs;
 use compression::values::reduce_freqs;

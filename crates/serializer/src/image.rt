@@ -2,8 +2,8 @@
 
 use crate::Answer;
 use crate::PostingsSerializer;
-use compression::area::put;
-use compression::area::within;
+use common::put;
+use common::within;
 use format::IndexRecordOption;
 use format::NO_ROOM;
 use format::Next;

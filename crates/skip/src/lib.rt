@@ -1,7 +1,8 @@
 // Skip entries, read and written, and what they hold by record option.
-use bitpacking::u32_from_le_bytes;
-use compression::area::put;
-use compression::area::within;
+use common::put;
+use common::u32_from_le_bytes;
+use common::u32_to_le_bytes;
+use common::within;
 use compression::compressed_block_size;
 use format::BlockInfo;
 use format::IndexRecordOption;
@@ -10,7 +11,7 @@ use format::TERMINATED;
 ghost use mathlib.Core.Path.{_≡_};
 ghost use Prim.Native.Nat.{_+_, _*_, _≤_};
 ghost use lib.ListN.{length, drop};
-ghost use Rattle.format.specs.Basics.{word};
+ghost use Rattle.format.specs.Basics.{fourBytes};
 ghost use Rattle.format.specs.SkipEntry.{hasFreq, entrySize, freqWidthOf, readEntry, blockSize, entryFits};
 ghost use Rattle.format.specs.Accepted.{keptIn};
 ghost use Rattle.skip.specs.Entry.{entryAt, entryPut, entryNext};
@@ -55,7 +56,7 @@ pub enum SkipEntry {
 // The 32-bit number at place `at`.
 fn read_u32(bytes: &[u8], at: usize) -> u32
     requires { ⌜ at + 4 ≤ length (now bytes) ⌝ }
-    ensures { λ r. ⌜ r ≡ word (now (bytes .entry)) at ⌝ }
+    ensures { λ r. ⌜ r ≡ fourBytes (now (bytes .entry)) at ⌝ }
 {
     u32_from_le_bytes(bytes[at], bytes[at + 1], bytes[at + 2], bytes[at + 3])
 }
@@ -112,12 +113,9 @@ pub fn write_entry(
     if 32 <= doc_width {
         return Next::Refused;
     }
-    let b0 = (last_doc % 256) as u8;
-    let b1 = (last_doc / 256 % 256) as u8;
-    let b2 = (last_doc / 65536 % 256) as u8;
-    let b3 = (last_doc / 16777216 % 256) as u8;
+    let last = u32_to_le_bytes(last_doc);
     let width = doc_width + 64;
-    let bytes = [b0, b1, b2, b3, width, freq_width, 0, 0];
+    let bytes = [last[0], last[1], last[2], last[3], width, freq_width, 0, 0];
     let size = entry_size(option);
     put(&bytes[..size], area, at)
 }

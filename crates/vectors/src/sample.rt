@@ -1,10 +1,10 @@
 // The sample's layout: where the parts of a case are, and the numbers in it.
 
-use bitpacking::u32_from_le_bytes;
+use common::u32_from_le_bytes;
 ghost use mathlib.Core.Path.{_≡_};
 ghost use Prim.Native.Nat.{_+_, _*_, _≤_, _<_};
 ghost use lib.ListN.{length, take};
-ghost use Rattle.format.specs.Basics.{word};
+ghost use Rattle.format.specs.Basics.{fourBytes};
 ghost use Rattle.vectors.specs.Sample.{short, words, caseAt};
 
 // A case: its head, where its parts begin, and where it ends.
@@ -42,7 +42,7 @@ pub(crate) fn short_at(input: &[u8], at: usize) -> usize
 // The 32-bit number at place `at`.
 fn word_at(input: &[u8], at: usize) -> u32
     requires { ⌜ at + 4 ≤ length (now input) ⌝ }
-    ensures { λ r. ⌜ r ≡ word (now (input .entry)) at ⌝ }
+    ensures { λ r. ⌜ r ≡ fourBytes (now (input .entry)) at ⌝ }
 {
     u32_from_le_bytes(input[at], input[at + 1], input[at + 2], input[at + 3])
 }

@@ -2,18 +2,15 @@
 -- is all of them, `rest` those still to come.
 -- Assumes nothing.
 use mathlib.Core.Path.{_≡_, refl, sym, ap, _∙_}
-use mathlib.Core.Bool.{true, false}
 use mathlib.Core.List.{List, [], _∷_, _++_}
 use Prim.Native.Nat.{ℕ, _+_, _*_, _^_, _≤_, _<_}
 use native.Mathlib.Nat.{zero-add}
 use native.Mathlib.Omega.{arith}
-use lib.Dec.{ltb}
 use lib.ListN.{length}
-use borrow.Author.Tests.{ltb-true, ltb-false}
-use Rattle.format.specs.declared.Next.the-variants.{At, Refused}
+use Rattle.format.specs.declared.Next.the-variants.{At}
 use Rattle.format.specs.Basics.{putAt, nextAt}
 use Rattle.format.specs.Vint.{vint, vints}
-use Rattle.format.proofs.Area.{length-putAt, putAt-nil, putAt-append, putAt-refused, nextAt-fits, nextAt-refused, fits-front, fits-back}
+use Rattle.format.proofs.Area.{length-putAt, putAt-nil, putAt-append, nextAt-fits, fits-front, fits-back}
 use Rattle.format.proofs.VintCode.{length-vint, length-vints, vints-nil, vints-cons}
 
 -- i values below 2 ^ 32 counted, in at most five bytes each
@@ -67,13 +64,3 @@ written-end {whole} {at} {next} {area₀} {area} e w =
       ap At behind ∙ sym (nextAt-fits at (vints whole) area₀ (omega (arith, w .room))),
       sym (putAt-nil next area) ∙ (rw (e, vints-nil) at (w .put)),
     )
-
--- a writer that asks for the size of its bytes before the first of them
-module _ (at size : ℕ) (bs area : List ℕ) (sized : size ≡ length bs) where
-  pub past-refused : ltb (length area) (at + size) ≡ true → (Refused ≡ nextAt at bs area) × (area ≡ putAt at bs area)
-  past-refused t =
-      let past : length area < at + length bs = omega (arith, ltb-true) in
-      (sym (nextAt-refused at bs area past), sym (putAt-refused at bs area past))
-
-  pub not-past-room : ltb (length area) (at + size) ≡ false → at + length bs ≤ length area
-  not-past-room t = omega (arith, ltb-false)

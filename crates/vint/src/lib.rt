@@ -1,11 +1,12 @@
 // Short numbers (vints): seven bits a byte, lowest first, the top bit set on the last byte alone. The port of common/vint.rs and
 // compression/vint.rs.
 
+use common::difference;
+use common::within;
 use format::Next;
 use format::VInt;
 ghost use mathlib.Core.Path.{_≡_};
-ghost use Prim.Native.Nat.{_+_, _-_, _≤_};
-ghost use lib.Dec.{ltb};
+ghost use Prim.Native.Nat.{_+_, _≤_};
 ghost use lib.ListN.{length, drop};
 ghost use Rattle.format.specs.Basics.{nextAt, putAt};
 ghost use Rattle.format.specs.Values.{gapsFrom};
@@ -71,13 +72,6 @@ pub fn vint_size(value: u64) -> usize
     size
 }
 
-// Whether `size` bytes from `at` on run past `len`; the sum may be too large for a usize.
-fn runs_past(at: usize, size: usize, len: usize) -> bool
-    ensures { λ r. ⌜ r ≡ ltb len (at + size) ⌝ }
-{
-    len < at || len - at < size
-}
-
 // The bytes of `value`, which fit, from `at` on; the place behind them.
 fn put_vint(value: u64, dst: &mut [u8], at: usize) -> usize
     requires { ⌜ at + length (vint value) ≤ length (now dst) ⌝ }
@@ -100,21 +94,10 @@ pub fn write_vint(value: u64, dst: &mut [u8], at: usize) -> Next
     ensures { λ r. ⌜ r ≡ nextAt at (vint value) (now (dst .entry)) ⌝ }
     ensures { λ _. ⌜ now (dst .exit) ≡ putAt at (vint value) (now (dst .entry)) ⌝ }
 {
-    if runs_past(at, vint_size(value), dst.len()) {
+    if !within(at, vint_size(value), dst.len()) {
         return Next::Refused;
     }
     Next::At(put_vint(value, dst, at))
-}
-
-// `doc` less `previous`, 0 where that would be negative.
-fn difference(doc: u32, previous: u32) -> u64
-    ensures { λ r. ⌜ r ≡ doc - previous ⌝ }
-{
-    if previous <= doc {
-        (doc - previous) as u64
-    } else {
-        0
-    }
 }
 
 // How many bytes the differences of `docs` take, the first from `offset`.
@@ -122,11 +105,11 @@ pub fn sorted_size(docs: &[u32], offset: u32) -> usize
     ensures { λ r. ⌜ r ≡ length (vints (gapsFrom 0 offset (now (docs .entry)))) ⌝ }
 {
     let mut size = 0;
-    let mut previous = offset;
+    let mut previous = offset as u64;
     for i in 0..docs.len() {
         let doc = docs[i];
-        size += vint_size(difference(doc, previous));
-        previous = doc;
+        size += vint_size(difference(doc, previous) as u64);
+        previous = doc as u64;
     }
     size
 }
@@ -147,15 +130,15 @@ pub fn compress_sorted(docs: &[u32], offset: u32, dst: &mut [u8], at: usize) -> 
     ensures { λ r. ⌜ r ≡ nextAt at (vints (gapsFrom 0 offset (now (docs .entry)))) (now (dst .entry)) ⌝ }
     ensures { λ _. ⌜ now (dst .exit) ≡ putAt at (vints (gapsFrom 0 offset (now (docs .entry)))) (now (dst .entry)) ⌝ }
 {
-    if runs_past(at, sorted_size(docs, offset), dst.len()) {
+    if !within(at, sorted_size(docs, offset), dst.len()) {
         return Next::Refused;
     }
     let mut next = at;
-    let mut previous = offset;
+    let mut previous = offset as u64;
     for i in 0..docs.len() {
         let doc = docs[i];
-        next = put_vint(difference(doc, previous), dst, next);
-        previous = doc;
+        next = put_vint(difference(doc, previous) as u64, dst, next);
+        previous = doc as u64;
     }
     Next::At(next)
 }
@@ -165,7 +148,7 @@ pub fn compress_unsorted(values: &[u32], dst: &mut [u8], at: usize) -> Next
     ensures { λ r. ⌜ r ≡ nextAt at (vints (now (values .entry))) (now (dst .entry)) ⌝ }
     ensures { λ _. ⌜ now (dst .exit) ≡ putAt at (vints (now (values .entry))) (now (dst .entry)) ⌝ }
 {
-    if runs_past(at, unsorted_size(values), dst.len()) {
+    if !within(at, unsorted_size(values), dst.len()) {
         return Next::Refused;
     }
     let mut next = at;

@@ -2,6 +2,7 @@
 -- Assumes nothing.
 use mathlib.Core.Path.{ap₂, _∙_}
 use Prim.Native.Nat.{ℕ}
+use Rattle.format.specs.Basics.{word}
 use Rattle.bitpacking.specs.Packed.{fromWords}
 use borrow.Author.Needs.{needs}
 use Rattle.bitpacking.proofs.lane_at.Statement.{statement}
@@ -17,6 +18,7 @@ value-at-requires : tie.Need-value-at-requires
 value-at-requires c κs = search needs
 
 returns : tie.Need-returns
+unfolding word
 returns c w most ones =
     c .value-at .ensures w most ones
     ∙ ap₂ (λ (low up : ℕ). fromWords low up (c .before .before .before .before .args .o) w) (c .before .before .word-at .ensures) (c .before .word-at2 .ensures)

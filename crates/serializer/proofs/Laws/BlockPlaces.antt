@@ -11,10 +11,10 @@ use native.Mathlib.Omega.{arith}
 use borrow.Author.Tests.{le-leb, lt-leb, leb-true}
 use lib.Dec.{leb}
 use lib.ListN.{length, getD, take, drop, length-append, length-drop}
-use lib.Seq.{length-take-le, take-all, take-append-seam}
+use lib.Seq.{length-take-le, take-all}
 use Rattle.format.specs.declared.IndexRecordOption.{IndexRecordOption}
 use Rattle.format.specs.declared.IndexRecordOption.the-variants.{Basic, WithFreqs}
-use Rattle.format.specs.Basics.{choose, lastOf, fitsAt, putAt, TERMINATED}
+use Rattle.format.specs.Basics.{choose, lastOf, fitsAt, TERMINATED}
 use Rattle.format.specs.SkipEntry.{entrySize}
 use Rattle.format.specs.Values.{gaps, origin, reduction, rising}
 use Rattle.format.specs.Written.{image}
@@ -172,9 +172,3 @@ module _ {option : IndexRecordOption} {ds fs : List ℕ} {entries size : ℕ} (s
         let postings-are : length (blocks .postings) ≡ length (take size postings) = sym (length-take-le size postings h ∙ sized .size-is) in
         fits-is
         ∙ rw (le-leb _ _ room, le-leb _ _ h, image-from option ds fs, image-size option ds fs (blocks .skips) (blocks .postings) (take entries skips) (take size postings))
-
--- ---- what was put at an area's front stands there
-
-pub put-front : (bs area : List ℕ) → length bs ≤ length area → take (length bs) (putAt 0 bs area) ≡ bs
-unfolding putAt choose fitsAt
-put-front bs area h = rw (zero-add, le-leb _ _ h) (take-append-seam bs _)

@@ -13,13 +13,13 @@ use Rattle.format.specs.Basics.{Outcome, ok, refused, andThen, ask, choose, fit
 use Rattle.format.specs.Refusal.{unknownMode, countMismatch, noRoom}
 use Rattle.format.specs.Written.{image}
 use Rattle.format.specs.Accepted.{keptIn, begin, takeDocs, written}
-use Rattle.format.proofs.Area.{length-putAt}
+use Rattle.format.proofs.Area.{length-putAt, take-putAt-front}
 use Rattle.serializer.specs.declared.Answer.{Answer}
 use Rattle.serializer.specs.declared.Answer.the-variants.{Bytes, Refused}
 use Rattle.serializer.specs.Calls.{answered, ImagePut, Listed}
 use Rattle.serializer.specs.Whole.{ListSized, PartsThere, fullBlocks, imageFrom, blocksFit, listFits, BlocksPut, ListPut}
 use Rattle.serializer.specs.Writer.{after, listing}
-use Rattle.serializer.proofs.Laws.BlockPlaces.{image-from, front-fits, blocks-room, listFits-is, put-front}
+use Rattle.serializer.proofs.Laws.BlockPlaces.{image-from, front-fits, blocks-room, listFits-is}
 
 -- ---- an outcome that hangs on one question
 
@@ -120,7 +120,7 @@ module _ (option : IndexRecordOption) (ds fs skips postings output : List ℕ) w
       image-there : imageFrom option ds fs (take entries skips′) (take size postings′) ≡ image option ds fs
       image-there =
           let all = blocks-room option ds fs skips postings blocks-fit in
-          rw (blocks .skips-after, blocks .postings-after, sized .entries-are, sized .size-is, put-front _ skips (all .0), put-front _ postings (all .1), ← image-from)
+          rw (blocks .skips-after, blocks .postings-after, sized .entries-are, sized .size-is, take-putAt-front _ skips (all .0), take-putAt-front _ postings (all .1), ← image-from)
 
       pub put-all : {output′ : List ℕ} {r : Answer} → ImagePut (imageFrom option ds fs (take entries skips′) (take size postings′)) output output′ r
           → ListPut option ds fs skips postings output skips′ postings′ output′ r

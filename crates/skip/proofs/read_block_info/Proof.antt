@@ -2,7 +2,9 @@
 -- Assumes nothing.
 use mathlib.Core.Path.{sym}
 use native.Mathlib.Omega.{arith}
+use denote.Ref.{now}
 use borrow.Author.Needs.{needs}
+use Rattle.format.specs.Basics.{word}
 use Rattle.skip.proofs.Entry.{size-least, readEntry-drop}
 use Rattle.skip.proofs.read_block_info.Statement.{statement}
 use Rattle.skip.proofs.read_block_info.Tie as tie
@@ -20,7 +22,10 @@ read-freq-width-requires : tie.Need-read-freq-width-requires
 read-freq-width-requires c κs = search needs
 
 returns : tie.Need-returns
-returns c = rw (c .before .read-u32 .ensures, c .read-freq-width .ensures) (sym (readEntry-drop _ _ _))
+unfolding word
+returns c =
+    let a = c .before .before .before .before .args in
+    rw (c .before .read-u32 .ensures, c .read-freq-width .ensures) (sym (readEntry-drop (a .option) (now (a .skips)) (a .at)))
 
 pub read-block-info-spec : {M : Type 1} → statement M
 read-block-info-spec =

@@ -17,26 +17,29 @@ returns : tie.Need-returns
 unfolding choose entryNext entryPut
 returns c = (rw (le-ltb _ _ (c .if1 .taken)), rw (le-ltb _ _ (c .if1 .taken)))
 
-cast-b0 : tie.Need-cast-b0
-cast-b0 c = search needs
-
-cast-b1 : tie.Need-cast-b1
-cast-b1 c = search needs
-
-cast-b2 : tie.Need-cast-b2
-cast-b2 c = search needs
-
-cast-b3 : tie.Need-cast-b3
-cast-b3 c = search needs
+u32-to-le-bytes-requires : tie.Need-u32-to-le-bytes-requires
+u32-to-le-bytes-requires c κs = search needs
 
 add-width : tie.Need-add-width
 add-width c = search needs
+
+array-read-t15 : tie.Need-array-read-t15
+array-read-t15 c = search needs
+
+array-read-t18 : tie.Need-array-read-t18
+array-read-t18 c = search needs
+
+array-read-t21 : tie.Need-array-read-t21
+array-read-t21 c = search needs
+
+array-read-t24 : tie.Need-array-read-t24
+array-read-t24 c = search needs
 
 entry-size-requires : tie.Need-entry-size-requires
 entry-size-requires c κs = search needs
 
 array-share-prefix-bytes : tie.Need-array-share-prefix-bytes
-array-share-prefix-bytes c = omega (arith, size-most (c .before .before .before .args .option))
+array-share-prefix-bytes c = omega (arith, size-most (c .before .before .before .before .args .option))
 
 slice-aggregate-put : tie.Need-slice-aggregate-put
 slice-aggregate-put c = sym (length-take-le (c .before .entry-size .result) _ (array-share-prefix-bytes (c .before)))
@@ -51,12 +54,13 @@ returns-2 : tie.Need-returns-2
 unfolding choose le32 entryNext entryPut
 returns-2 c =
     let sized = c .before .before .before .before .before in
-    let a = sized .before .before .before .args in
-    let narrow : ltb (a .doc-width) 32 ≡ true = lt-ltb _ _ (sized .before .if1 .left) in
+    let told = sized .before in
+    let a = told .before .before .before .args in
+    let narrow : ltb (a .doc-width) 32 ≡ true = lt-ltb _ _ (told .before .if1 .left) in
     let put = c .before .before .put .ensures in
     let entry = take-entry (a .option) (a .last-doc) (a .doc-width) (a .freq-width) in (
-      rw narrow (put .0 ∙ rw (sized .entry-size .ensures, entry)),
-      rw narrow (put .1 ∙ rw (sized .entry-size .ensures, entry)),
+      rw narrow (put .0 ∙ rw (told .u32-to-le-bytes .ensures, sized .entry-size .ensures, entry)),
+      rw narrow (put .1 ∙ rw (told .u32-to-le-bytes .ensures, sized .entry-size .ensures, entry)),
     )
 
 pub write-entry-spec : {M : Type 1} → statement M
@@ -64,11 +68,12 @@ write-entry-spec =
     tie.close
     (tie.spec
     returns
-    cast-b0
-    cast-b1
-    cast-b2
-    cast-b3
+    u32-to-le-bytes-requires
     add-width
+    array-read-t15
+    array-read-t18
+    array-read-t21
+    array-read-t24
     entry-size-requires
     array-share-prefix-bytes
     slice-aggregate-put

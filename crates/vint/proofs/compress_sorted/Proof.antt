@@ -10,7 +10,8 @@ use denote.Ref.{now}
 use Rattle.format.specs.Values.{gapsFrom}
 use Rattle.format.specs.Vint.{vints}
 use Rattle.format.proofs.Gaps.{gapsFrom-next, gapsFrom-end}
-use Rattle.vint.proofs.Runs.{Written, written-none, written-room, written-next, written-end, past-refused, not-past-room}
+use Rattle.common.proofs.Fits.{fits-not, fits-room}
+use Rattle.vint.proofs.Runs.{Written, written-none, written-room, written-next, written-end}
 use Rattle.vint.proofs.compress_sorted.Statement.{statement}
 use Rattle.vint.proofs.compress_sorted.Tie as tie
 
@@ -24,21 +25,21 @@ abbrev μ-loop : tie.MeasureT-loop
 sorted-size-requires : tie.Need-sorted-size-requires Inv-loop μ-loop
 sorted-size-requires c κs = search needs
 
-runs-past-requires : tie.Need-runs-past-requires Inv-loop μ-loop
-runs-past-requires c κs = search needs
+within-requires : tie.Need-within-requires Inv-loop μ-loop
+within-requires c κs = search needs
 
 returns : tie.Need-returns Inv-loop μ-loop
 returns c =
     let a = c .before .before .before .before .before .args in
-    past-refused (a .at) _ (vints (gapsFrom 0 (a .offset) (now (a .docs)))) (now (a .dst)) (c .before .before .sorted-size .ensures)
-    (sym (c .before .runs-past .ensures) ∙ c .if1 .taken)
+    fits-not (a .at) _ (vints (gapsFrom 0 (a .offset) (now (a .docs)))) (now (a .dst)) (c .before .before .sorted-size .ensures) _
+    (c .before .within .ensures) (c .if1 .taken)
 
 loop-holds : tie.Need-loop-holds Inv-loop μ-loop
 loop-holds c =
     let a = c .before .before .before .before .before .args in (
       omega arith,
-      written-none _ _ _ (not-past-room (a .at) _ (vints (gapsFrom 0 (a .offset) (now (a .docs)))) (now (a .dst)) (c .before .before .sorted-size .ensures)
-          (sym (c .before .runs-past .ensures) ∙ c .if1 .left)),
+      written-none _ _ _ (fits-room (a .at) _ (vints (gapsFrom 0 (a .offset) (now (a .docs)))) (now (a .dst)) (c .before .before .sorted-size .ensures) _
+          (c .before .within .ensures) (c .if1 .left)),
     )
 
 mul-doc : tie.Need-mul-doc Inv-loop μ-loop
@@ -50,10 +51,18 @@ shared-slice-read-doc c = omega arith
 difference-requires : tie.Need-difference-requires Inv-loop μ-loop
 difference-requires c κs = search needs
 
+cast-put-vint : tie.Need-cast-put-vint Inv-loop μ-loop
+cast-put-vint c = search needs
+
 put-vint-requires : tie.Need-put-vint-requires Inv-loop μ-loop
 put-vint-requires c κs =
     let l = c .before .before .before .before .loop in
     rw (c .before .difference .ensures) (written-room (gapsFrom-next 0 _ _ (l .i) (add-zero _) (omega arith)) (l .inv .1))
+
+cast-previous : tie.Need-cast-previous Inv-loop μ-loop
+cast-previous c =
+    let known = c .before .before .before .before .before in
+    omega (arith, known .shared-slice-known2 .given (known .before .before .loop .i))
 
 add-i : tie.Need-add-i Inv-loop μ-loop
 add-i c = omega arith
@@ -80,13 +89,15 @@ compress-sorted-spec =
     Inv-loop
     μ-loop
     sorted-size-requires
-    runs-past-requires
+    within-requires
     returns
     loop-holds
     mul-doc
     shared-slice-read-doc
     difference-requires
+    cast-put-vint
     put-vint-requires
+    cast-previous
     add-i
     loop-less
     loop-again

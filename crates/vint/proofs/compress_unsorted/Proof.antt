@@ -8,7 +8,8 @@ use lib.ListN.{length, drop, drop-of-length-le}
 use denote.Ref.{now}
 use Rattle.format.specs.Vint.{vints}
 use Rattle.format.proofs.Gaps.{drop-next}
-use Rattle.vint.proofs.Runs.{Written, written-none, written-room, written-next, written-end, past-refused, not-past-room}
+use Rattle.common.proofs.Fits.{fits-not, fits-room}
+use Rattle.vint.proofs.Runs.{Written, written-none, written-room, written-next, written-end}
 use Rattle.vint.proofs.compress_unsorted.Statement.{statement}
 use Rattle.vint.proofs.compress_unsorted.Tie as tie
 
@@ -22,21 +23,21 @@ abbrev μ-loop : tie.MeasureT-loop
 unsorted-size-requires : tie.Need-unsorted-size-requires Inv-loop μ-loop
 unsorted-size-requires c κs = search needs
 
-runs-past-requires : tie.Need-runs-past-requires Inv-loop μ-loop
-runs-past-requires c κs = search needs
+within-requires : tie.Need-within-requires Inv-loop μ-loop
+within-requires c κs = search needs
 
 returns : tie.Need-returns Inv-loop μ-loop
 returns c =
     let a = c .before .before .before .before .before .args in
-    past-refused (a .at) _ (vints (now (a .values))) (now (a .dst)) (c .before .before .unsorted-size .ensures)
-    (sym (c .before .runs-past .ensures) ∙ c .if1 .taken)
+    fits-not (a .at) _ (vints (now (a .values))) (now (a .dst)) (c .before .before .unsorted-size .ensures) _
+    (c .before .within .ensures) (c .if1 .taken)
 
 loop-holds : tie.Need-loop-holds Inv-loop μ-loop
 loop-holds c =
     let a = c .before .before .before .before .before .args in (
       omega arith,
-      written-none _ _ _ (not-past-room (a .at) _ (vints (now (a .values))) (now (a .dst)) (c .before .before .unsorted-size .ensures)
-          (sym (c .before .runs-past .ensures) ∙ c .if1 .left)),
+      written-none _ _ _ (fits-room (a .at) _ (vints (now (a .values))) (now (a .dst)) (c .before .before .unsorted-size .ensures) _
+          (c .before .within .ensures) (c .if1 .left)),
     )
 
 mul-put-vint : tie.Need-mul-put-vint Inv-loop μ-loop
@@ -78,7 +79,7 @@ compress-unsorted-spec =
     Inv-loop
     μ-loop
     unsorted-size-requires
-    runs-past-requires
+    within-requires
     returns
     loop-holds
     mul-put-vint

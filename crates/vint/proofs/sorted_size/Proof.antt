@@ -44,11 +44,17 @@ shared-slice-read-doc c = omega arith
 difference-requires : tie.Need-difference-requires Inv-loop μ-loop
 difference-requires c κs = search needs
 
+cast-vint-size : tie.Need-cast-vint-size Inv-loop μ-loop
+cast-vint-size c = search needs
+
 vint-size-requires : tie.Need-vint-size-requires Inv-loop μ-loop
 vint-size-requires c κs = search needs
 
 add-size : tie.Need-add-size Inv-loop μ-loop
 add-size c = omega (arith, next c .small)
+
+cast-previous : tie.Need-cast-previous Inv-loop μ-loop
+cast-previous c = omega (arith, c .before .before .shared-slice-known2 .given (c .before .before .before .before .loop .i))
 
 add-i : tie.Need-add-i Inv-loop μ-loop
 add-i c = omega arith
@@ -72,8 +78,10 @@ sorted-size-spec =
     mul-doc
     shared-slice-read-doc
     difference-requires
+    cast-vint-size
     vint-size-requires
     add-size
+    cast-previous
     add-i
     loop-less
     loop-again

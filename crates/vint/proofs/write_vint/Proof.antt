@@ -8,27 +8,27 @@ use denote.Ref.{now}
 use Rattle.format.specs.declared.Next.the-variants.{At}
 use Rattle.format.specs.Vint.{vint}
 use Rattle.format.proofs.Area.{nextAt-fits}
-use Rattle.vint.proofs.Runs.{past-refused, not-past-room}
+use Rattle.common.proofs.Fits.{fits-not, fits-room}
 use Rattle.vint.proofs.write_vint.Statement.{statement}
 use Rattle.vint.proofs.write_vint.Tie as tie
 
 room : (c : tie.Else1) → let a = c .before .before .before .before .args in a .at + length (vint (a .value)) ≤ length (now (a .dst))
 room c =
     let a = c .before .before .before .before .args in
-    not-past-room (a .at) _ (vint (a .value)) (now (a .dst)) (c .before .before .vint-size .ensures)
-    (sym (c .before .runs-past .ensures) ∙ c .if1 .left)
+    fits-room (a .at) _ (vint (a .value)) (now (a .dst)) (c .before .before .vint-size .ensures) _
+    (c .before .within .ensures) (c .if1 .left)
 
 vint-size-requires : tie.Need-vint-size-requires
 vint-size-requires c κs = search needs
 
-runs-past-requires : tie.Need-runs-past-requires
-runs-past-requires c κs = search needs
+within-requires : tie.Need-within-requires
+within-requires c κs = search needs
 
 returns : tie.Need-returns
 returns c =
     let a = c .before .before .before .before .args in
-    past-refused (a .at) _ (vint (a .value)) (now (a .dst)) (c .before .before .vint-size .ensures)
-    (sym (c .before .runs-past .ensures) ∙ c .if1 .taken)
+    fits-not (a .at) _ (vint (a .value)) (now (a .dst)) (c .before .before .vint-size .ensures) _
+    (c .before .within .ensures) (c .if1 .taken)
 
 put-vint-requires : tie.Need-put-vint-requires
 put-vint-requires c κs = room (c .before)
@@ -42,4 +42,4 @@ returns-2 c =
     (ap At (put .0) ∙ sym (nextAt-fits _ _ _ (room (c .before .before .before .before))), put .1)
 
 pub write-vint-spec : {M : Type 1} → statement M
-write-vint-spec = tie.close (tie.spec vint-size-requires runs-past-requires returns put-vint-requires same-length returns-2)
+write-vint-spec = tie.close (tie.spec vint-size-requires within-requires returns put-vint-requires same-length returns-2)

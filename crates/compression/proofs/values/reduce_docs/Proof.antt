@@ -1,14 +1,13 @@
 -- `compression::values::reduce_docs` meets its contract. The invariant: the values left are those of the ids left, told from the
 -- least id that may come next.
 -- Assumes nothing.
-use mathlib.Core.Path.{_≡_, refl, _∙_, sym}
+use mathlib.Core.Path.{_≡_, refl}
 use mathlib.Core.List.{List, _∷_}
-use Prim.Native.Nat.{ℕ, _≤_, _-_, _+_}
+use Prim.Native.Nat.{ℕ, _-_, _+_}
 use native.Mathlib.Omega.{arith}
-use denote.Ref.{now}
-use lib.ListN.{length, length-set}
+use lib.ListN.{length}
 use Rattle.format.specs.Values.{gaps, gapsFrom, reduction, origin}
-use Rattle.compression.proofs.InPlace.{finished, turn, end, whole}
+use Rattle.compression.proofs.InPlace.{Replacing, replacing-none, replacing-next, replacing-all}
 use Rattle.compression.proofs.values.reduce_docs.Statement.{statement}
 use Rattle.compression.proofs.values.reduce_docs.Tie as tie
 
@@ -17,14 +16,13 @@ unfolding gapsFrom
 turns s v vs = refl
 
 abbrev Inv-loop : tie.InvT-loop
-Inv-loop least block₀ from₀ i₀ block from i =
-    (i ≤ 128) × (length block ≡ 128) × (finished (gapsFrom 1) 128 least 0 block₀ ≡ finished (gapsFrom 1) 128 from i block)
+Inv-loop least block₀ from₀ i₀ block from i = (length block₀ ≡ 128) × Replacing (gapsFrom 1) 128 least 0 block₀ from i block
 
 abbrev μ-loop : tie.MeasureT-loop
 μ-loop least block₀ from₀ i₀ block from i = 128 - i
 
 loop-holds : tie.Need-loop-holds Inv-loop μ-loop
-loop-holds c = (omega arith, omega arith, refl)
+loop-holds c = (omega arith, replacing-none (gapsFrom 1) 128 _ 0 _ (omega arith))
 
 mul-d : tie.Need-mul-d Inv-loop μ-loop
 mul-d c = omega arith
@@ -55,19 +53,14 @@ loop-less c = omega arith
 
 loop-again : tie.Need-loop-again Inv-loop μ-loop
 loop-again c =
-    let here = c .before .before .before .loop in (
-      omega arith,
-      simp length-set (omega arith),
-      rw (c .difference .ensures) (here .inv .2 ∙ turn (gapsFrom 1) (λ s v. v - s) (λ s v. v + 1) turns 128 (here .from) (here .i) (here .block) (omega arith) (omega arith)),
-    )
+    let inv = c .before .before .before .loop .inv in
+    (inv .0, rw (c .difference .ensures) (replacing-next (gapsFrom 1) (λ s v. v - s) (λ s v. v + 1) turns (omega arith) (omega arith) (inv .1)))
 
 returns : tie.Need-returns Inv-loop μ-loop
 unfolding gaps reduction origin gapsFrom
 returns c =
-    let here = c .before .loop in
-    let start = c .before .before .before .args in
-    sym (end (gapsFrom 1) (λ s. refl) 128 (here .from) (here .i) (here .block) (omega arith))
-    ∙ (sym (here .inv .2) ∙ whole (gapsFrom 1) (λ s. refl) 128 (start .least) (now (start .docs)) (omega arith))
+    let inv = c .before .loop .inv in
+    replacing-all (gapsFrom 1) (λ s. refl) (c .loop-test .left) (inv .0) (inv .1)
 
 pub reduce-docs-spec : {M : Type 1} → statement M
 reduce-docs-spec =

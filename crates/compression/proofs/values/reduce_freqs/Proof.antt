@@ -1,14 +1,13 @@
 -- `compression::values::reduce_freqs` meets its contract. The invariant: the values left are those of the frequencies left.
 -- Assumes nothing.
-use mathlib.Core.Path.{_≡_, refl, _∙_, sym}
+use mathlib.Core.Path.{_≡_, refl}
 use mathlib.Core.Bool.{true}
 use mathlib.Core.List.{List, _∷_}
-use Prim.Native.Nat.{ℕ, _≤_, _-_}
+use Prim.Native.Nat.{ℕ, _-_}
 use native.Mathlib.Omega.{arith}
-use denote.Ref.{now}
-use lib.ListN.{length, length-set}
+use lib.ListN.{length}
 use Rattle.format.specs.Values.{reduced, reduction}
-use Rattle.compression.proofs.InPlace.{finished, turn, end, whole}
+use Rattle.compression.proofs.InPlace.{Replacing, replacing-none, replacing-next, replacing-all}
 use Rattle.compression.proofs.values.reduce_freqs.Statement.{statement}
 use Rattle.compression.proofs.values.reduce_freqs.Tie as tie
 
@@ -21,13 +20,13 @@ unfolding reduced reduction
 turns s f fs = refl
 
 abbrev Inv-loop : tie.InvT-loop
-Inv-loop block₀ i₀ block i = (i ≤ 128) × (length block ≡ 128) × (finished each 128 tt 0 block₀ ≡ finished each 128 tt i block)
+Inv-loop block₀ i₀ block i = (length block₀ ≡ 128) × Replacing each 128 tt 0 block₀ tt i block
 
 abbrev μ-loop : tie.MeasureT-loop
 μ-loop block₀ i₀ block i = 128 - i
 
 loop-holds : tie.Need-loop-holds Inv-loop μ-loop
-loop-holds c = (omega arith, omega arith, refl)
+loop-holds c = (omega arith, replacing-none each 128 tt 0 _ (omega arith))
 
 mul-difference : tie.Need-mul-difference Inv-loop μ-loop
 mul-difference c = omega arith
@@ -52,18 +51,14 @@ loop-less c = omega arith
 
 loop-again : tie.Need-loop-again Inv-loop μ-loop
 loop-again c =
-    let here = c .before .before .before .loop in (
-      omega arith,
-      simp length-set (omega arith),
-      rw (c .difference .ensures) (here .inv .2 ∙ turn each (λ s f. f - 1) (λ s f. s) turns 128 tt (here .i) (here .block) (omega arith) (omega arith)),
-    )
+    let inv = c .before .before .before .loop .inv in
+    (inv .0, rw (c .difference .ensures) (replacing-next each (λ s f. f - 1) (λ s f. s) turns (omega arith) (omega arith) (inv .1)))
 
 returns : tie.Need-returns Inv-loop μ-loop
 unfolding reduced
 returns c =
-    let here = c .before .loop in
-    sym (end each (λ s. refl) 128 tt (here .i) (here .block) (omega arith))
-    ∙ (sym (here .inv .2) ∙ whole each (λ s. refl) 128 tt (now (c .before .before .before .args .freqs)) (omega arith))
+    let inv = c .before .loop .inv in
+    replacing-all each (λ s. refl) (c .loop-test .left) (inv .0) (inv .1)
 
 pub reduce-freqs-spec : {M : Type 1} → statement M
 reduce-freqs-spec =

@@ -7,12 +7,12 @@ use mathlib.Core.List.{List, _∷_, map}
 use Prim.Native.Nat.{ℕ, _≤_, _<_, _-_, _+_, _%_, _^_}
 use native.Mathlib.Omega.{arith}
 use lib.Dec.{eqb}
-use lib.ListN.{length, length-set, getD, set}
+use lib.ListN.{length, getD, set}
 use lib.Seq.{slice, slice-empty}
 use Rattle.format.specs.Values.{restored, reduction, countable}
 use Rattle.format.proofs.ValuesCode.{counts-wrapped, reduction-small}
 use Rattle.compression.specs.Restored.{inPlace}
-use Rattle.compression.proofs.InPlace.{slice-turn, finished, turn, end}
+use Rattle.compression.proofs.InPlace.{slice-turn, Replacing, replacing-none, replacing-next, replacing-end}
 use Rattle.compression.proofs.values.restore_from.Statement.{statement}
 use Rattle.compression.proofs.values.restore_from.Tie as tie
 
@@ -39,8 +39,7 @@ count-turns strict bad v vs h =
 
 abbrev Inv-loop : tie.InvT-loop
 Inv-loop values₀ start n strict more bad₀ i₀ values bad i =
-    (i ≤ n) × (length values ≡ length values₀)
-    × (finished (each strict) n tt start values₀ ≡ finished (each strict) n tt i values)
+    Replacing (each strict) n tt start values₀ tt i values
     × (countable (restored strict (slice start n values₀)) ≡ and (not bad) (countable (restored strict (slice i n values))))
 
 abbrev μ-loop : tie.MeasureT-loop
@@ -50,7 +49,7 @@ reduction-requires : tie.Need-reduction-requires Inv-loop μ-loop
 reduction-requires c κs = tt
 
 loop-holds : tie.Need-loop-holds Inv-loop μ-loop
-loop-holds c = (omega arith, refl, refl, refl)
+loop-holds c = (replacing-none (each _) _ tt _ _ (omega arith), refl)
 
 mul-f : tie.Need-mul-f Inv-loop μ-loop
 mul-f c = omega arith
@@ -89,13 +88,10 @@ loop-again c =
     let f : ℕ = (v + reduction strict) % 2 ^ 32 in
     let inside : here .i < n = omega arith in
     let within : n ≤ length (here .values) = omega arith in (
-      omega arith,
-      simp length-set (omega arith),
       rw (c .before .before .before .reduction .ensures)
-          (here .inv .2
-          ∙ turn (each strict) (λ s v. (v + reduction strict) % 2 ^ 32) (λ s v. s) (each-turns strict) n tt (here .i) (here .values) inside within),
+          (replacing-next (each strict) (λ s v. (v + reduction strict) % 2 ^ 32) (λ s v. s) (each-turns strict) inside (omega arith) (here .inv .0)),
       rw (c .before .before .before .reduction .ensures)
-          (here .inv .3
+          (here .inv .1
           ∙ (ap (λ (vs : List ℕ). and (not (here .bad)) (countable (restored strict vs))) (slice-turn (here .values) (here .i) n f inside within)
           ∙ count-turns strict (here .bad) v (slice (here .i + 1) n (set (here .values) (here .i) f)) (c .slice-known2 .given (here .i) .fits))),
     )
@@ -110,8 +106,8 @@ returns c =
     let args = c .before .before .before .before .args in
     let all : here .i ≡ args .n = omega arith in
     record {
-      answered = sym (here .inv .3 ∙ rw (all, slice-empty (args .n) (here .values)) (and-true (not (here .bad))));
-      left = sym (here .inv .2 ∙ end (each (args .strict)) (λ s. refl) (args .n) tt (here .i) (here .values) all);
+      answered = sym (here .inv .1 ∙ rw (all, slice-empty (args .n) (here .values)) (and-true (not (here .bad))));
+      left = replacing-end (each (args .strict)) (λ s. refl) (c .loop-test .left) (here .inv .0);
     }
 
 pub restore-from-spec : {M : Type 1} → statement M

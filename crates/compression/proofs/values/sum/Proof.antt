@@ -6,12 +6,12 @@ use mathlib.Core.List.{List, _∷_, map}
 use Prim.Native.Nat.{ℕ, _≤_, _<_, _-_, _*_, _+_, _%_, _^_}
 use native.Mathlib.Nat.{add-zero}
 use native.Mathlib.Omega.{arith}
-use lib.ListN.{length, length-set, take, getD, set}
+use lib.ListN.{length, take, getD, set}
 use lib.Seq.{slice, slice-empty}
 use Rattle.format.specs.Basics.{lastOf}
 use Rattle.format.specs.Values.{idsFrom}
 use Rattle.compression.specs.Restored.{inPlace}
-use Rattle.compression.proofs.InPlace.{slice-turn, finished, turn, end}
+use Rattle.compression.proofs.InPlace.{slice-turn, Replacing, replacing-none, replacing-next, replacing-end}
 use Rattle.compression.proofs.values.sum.Statement.{statement}
 use Rattle.compression.proofs.values.sum.Tie as tie
 
@@ -31,15 +31,15 @@ last-turn s v vs = rw add-zero
 
 abbrev Inv-loop : tie.InvT-loop
 Inv-loop values₀ n before last₀ i₀ values last i =
-    (i ≤ n) × (length values ≡ length values₀) × (last ≤ before + 4294967296 * i)
-    × (finished sums n before 0 values₀ ≡ finished sums n last i values)
+    Replacing sums n before 0 values₀ last i values
+    × (last ≤ before + 4294967296 * i)
     × (lastSum before (take n values₀) ≡ lastSum last (slice i n values))
 
 abbrev μ-loop : tie.MeasureT-loop
 μ-loop values₀ n before last₀ i₀ values last i = n - i
 
 loop-holds : tie.Need-loop-holds Inv-loop μ-loop
-loop-holds c = (omega arith, refl, omega arith, refl, refl)
+loop-holds c = (replacing-none sums _ _ 0 _ (omega arith), omega arith, refl)
 
 mul-last : tie.Need-mul-last Inv-loop μ-loop
 mul-last c = omega arith
@@ -76,11 +76,9 @@ loop-again c =
     let out : ℕ = (here .last + v) % 2 ^ 32 in
     let inside : here .i < n = omega arith in
     let within : n ≤ length (here .values) = omega arith in (
-      omega arith,
-      simp length-set (omega arith),
+      replacing-next sums (λ s v. (s + v) % 2 ^ 32) (λ s v. s + v) sums-turn inside (omega arith) (here .inv .0),
       omega (arith, c .slice-known .given (here .i)),
-      here .inv .3 ∙ turn sums (λ s v. (s + v) % 2 ^ 32) (λ s v. s + v) sums-turn n (here .last) (here .i) (here .values) inside within,
-      here .inv .4
+      here .inv .2
           ∙ (ap (lastSum (here .last)) (slice-turn (here .values) (here .i) n out inside within)
           ∙ last-turn (here .last) v (slice (here .i + 1) n (set (here .values) (here .i) out))),
     )
@@ -95,8 +93,8 @@ returns c =
     let n : ℕ = c .before .before .args .n in
     let all : here .i ≡ n = omega arith in
     record {
-      answered = sym (here .inv .4 ∙ rw (all, slice-empty n (here .values)));
-      left = sym (here .inv .3 ∙ end sums (λ s. refl) n (here .last) (here .i) (here .values) all);
+      answered = sym (here .inv .2 ∙ rw (all, slice-empty n (here .values)));
+      left = replacing-end sums (λ s. refl) (c .loop-test .left) (here .inv .0);
     }
 
 pub sum-spec : {M : Type 1} → statement M

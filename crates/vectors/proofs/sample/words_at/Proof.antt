@@ -8,6 +8,7 @@ use native.Mathlib.Omega.{arith}
 use denote.Ref.{now}
 use lib.ListN.{length, take, length-set}
 use lib.Seq.{take-suc-set}
+use Rattle.format.specs.Basics.{word}
 use Rattle.vectors.specs.Sample.{words}
 use Rattle.vectors.proofs.Cases.{words-more, words-none}
 use Rattle.vectors.proofs.sample.words_at.Statement.{statement}
@@ -45,6 +46,7 @@ loop-less : tie.Need-loop-less Inv-loop μ-loop
 loop-less c = omega arith
 
 loop-again : tie.Need-loop-again Inv-loop μ-loop
+unfolding word
 loop-again c =
     let l = c .before .before .loop in
     let a = c .before .before .before .before .args in

@@ -1,4 +1,4 @@
--- `compression::area::put` meets its contract. The loop's invariant: what is written so far is a copy of the first `i` bytes, all of which fit.
+-- `common::put` meets its contract. The loop's invariant: what is written so far is a copy of the first `i` bytes, all of which fit.
 -- Its measure is the bytes left. Assumes nothing.
 use mathlib.Core.Path.{_≡_, refl, sym, ap, _∙_}
 use mathlib.Core.List.{List}
@@ -9,10 +9,10 @@ use denote.Ref.{now}
 use lib.ListN.{length, getD, set, length-set}
 use lib.Seq.{paste, paste-zero, paste-suc}
 use borrow.Author.Needs.{needs}
-use borrow.Author.Tests.{leb-true, leb-false, not-true, not-false}
-use Rattle.format.proofs.Area.{putAt-paste, nextAt-fits, putAt-refused, nextAt-refused}
-use Rattle.compression.proofs.area.put.Statement.{statement}
-use Rattle.compression.proofs.area.put.Tie as tie
+use Rattle.format.proofs.Area.{putAt-paste, nextAt-fits}
+use Rattle.common.proofs.Fits.{fits-not, fits-room}
+use Rattle.common.proofs.put.Statement.{statement}
+use Rattle.common.proofs.put.Tie as tie
 
 abbrev Inv-loop : tie.InvT-loop
 Inv-loop bytes area₀ at i₀ area i =
@@ -30,13 +30,12 @@ within-requires c κs = search needs
 returns : tie.Need-returns Inv-loop μ-loop
 returns c =
     let a = c .before .before .before .before .args in
-    let short : length (now (a .area)) < a .at + length (now (a .bytes)) = leb-false _ _ (sym (c .before .within .ensures) ∙ not-true _ (c .if1 .taken)) in
-    (sym (nextAt-refused _ _ _ short), sym (putAt-refused _ _ _ short))
+    fits-not (a .at) _ (now (a .bytes)) (now (a .area)) refl _ (c .before .within .ensures) (c .if1 .taken)
 
 loop-holds : tie.Need-loop-holds Inv-loop μ-loop
 loop-holds c =
     let a = c .before .before .before .before .args in
-    let room : a .at + length (now (a .bytes)) ≤ length (now (a .area)) = leb-true _ _ (sym (c .before .within .ensures) ∙ not-false _ (c .if1 .left)) in
+    let room = fits-room (a .at) _ (now (a .bytes)) (now (a .area)) refl _ (c .before .within .ensures) (c .if1 .left) in
     (omega arith, room, refl, paste-zero (now (a .area)) (a .at) (now (a .bytes)))
 
 shared-slice-read-area : tie.Need-shared-slice-read-area Inv-loop μ-loop

@@ -1,4 +1,4 @@
--- `compression::area::within` meets its contract: both tests are the test on the sum, which here may be any number.
+-- `common::within` meets its contract: both tests are the test on the sum, which here may be any number.
 -- Assumes nothing.
 use mathlib.Core.Path.{_≡_, sym}
 use Prim.Native.Nat.{ℕ, _+_, _-_, _≤_}
@@ -6,8 +6,8 @@ use native.Mathlib.Decide.{decLe}
 use native.Mathlib.Omega.{arith}
 use lib.Dec.{leb}
 use borrow.Author.Tests.{le-leb, lt-leb}
-use Rattle.compression.proofs.area.within.Statement.{statement}
-use Rattle.compression.proofs.area.within.Tie as tie
+use Rattle.common.proofs.within.Statement.{statement}
+use Rattle.common.proofs.within.Tie as tie
 
 returns : tie.Need-returns
 returns c = sym (lt-leb (c .before .args .at + c .before .args .size) (c .before .args .len) (omega arith))

@@ -1,10 +1,10 @@
--- `bitpacking::u32_from_le_bytes` meets its contract: each byte is put above the ones before it.
+-- `common::u32_from_le_bytes` meets its contract: each byte is put above the ones before it.
 -- Assumes nothing.
 use Prim.Native.Nat.{ℕ, _+_, _*_}
 use native.Mathlib.Omega.{arith}
-use Rattle.bitpacking.proofs.Shifts.{or-above}
-use Rattle.bitpacking.proofs.u32_from_le_bytes.Statement.{statement}
-use Rattle.bitpacking.proofs.u32_from_le_bytes.Tie as tie
+use Rattle.common.proofs.Shifts.{or-above}
+use Rattle.common.proofs.u32_from_le_bytes.Statement.{statement}
+use Rattle.common.proofs.u32_from_le_bytes.Tie as tie
 
 returns : tie.Need-returns
 returns c =
