@@ -8,8 +8,7 @@ use mathlib.Core.Bool.{Bool, _&&_ as and}
 use mathlib.Core.List.{List, [], _∷_, map}
 use mathlib.Core.Path.{_≡_, sym, ap, _∙_}
 use Prim.Native.Nat.{ℕ, _+_, _≤_, _<_, _^_}
-use native.Mathlib.Omega.{arith}
-use borrow.Author.Tests.{le-leb, lt-leb, eq-eqb}
+use borrow.Author.Tests.{lt-leb}
 use lib.Dec.{ltb}
 use lib.ListN.{length, take}
 use Rattle.format.specs.declared.Term.{Term}
@@ -26,7 +25,7 @@ use Rattle.format.proofs.Area.{take-putAt-front}
 use Rattle.format.proofs.Accepted.{written-ok}
 use Rattle.format.proofs.Blocks.{docs-many}
 use Rattle.format.proofs.Requested.{sound-requested}
-use Rattle.format.proofs.Sound.{sound-image, sound-blocks, whole-count}
+use Rattle.format.proofs.Sound.{Sound, sound-image, sound-blocks, whole-count}
 use Rattle.format.proofs.Totals.{total-below}
 use Rattle.serializer.specs.declared.Written.the-variants.{Bytes}
 use Rattle.serializer.specs.Writer.{listing}
@@ -39,6 +38,7 @@ use Rattle.segment_postings.specs.Cursor.{ranking}
 use Rattle.segment_postings.specs.Calls.{valued}
 use Rattle.segment_postings.specs.ReadWhole.{readWhole, WholeRead}
 use Rattle.segment_postings.specs.Called.{shown, valueNumbers}
+use Rattle.segment_postings.proofs.Laws.ReadQuestions.{whole-is}
 use Rattle.segment_postings.proofs.Simulation.RankCounts.{rank-ids, rank-refused}
 use Rattle.postings.specs.MixedCalls.{MadeCall, callsOf, Opened, Called}
 use Rattle.postings.proofs.FirstPromise.{bytes-answered}
@@ -118,10 +118,11 @@ module _ (mode count : ℕ) (bs : List ℕ) (target : ℕ) where
 
 module _ (t : Term) (bs docs freqs : List ℕ) (sound : soundness (t .mode) (t .count) bs ≡ 0) (known : t .requested ≤ 2)
     (docs-fit : t .count ≤ length docs) (freqs-fit : t .count ≤ length freqs) where
+  readable : Sound t bs
+  readable = sound-image t bs (sound-requested (t .mode) (t .requested) (t .count) bs known sound)
+
   read-is : readWhole t bs (length docs) (length freqs) ≡ ok (reading t bs .blocks)
-  unfolding readWhole ask
-  read-is =
-      rw (le-leb (t .count) (length docs) docs-fit, le-leb (t .count) (length freqs) freqs-fit, eq-eqb _ 0 sound, le-leb (t .requested) 2 known)
+  read-is = whole-is t bs (length docs) (length freqs) (readable .found) sound docs-fit freqs-fit
 
   -- it answers the count, and leaves the documents and the frequencies that are read from the image at the front of the two
   pub list-read : {docs′ freqs′ : List ℕ} {r : Value} → WholeRead (readWhole t bs (length docs) (length freqs)) docs freqs docs′ freqs′ r
@@ -130,7 +131,7 @@ module _ (t : Term) (bs docs freqs : List ℕ) (sound : soundness (t .mode) (t .
       × (freqs′ ≡ putAt 0 (freqsOf (reading t bs .blocks)) freqs)
   unfolding andThen orBefore
   list-read k =
-      let blocks = sound-blocks (sound-image t bs (sound-requested (t .mode) (t .requested) (t .count) bs known sound)) in (
+      let blocks = sound-blocks readable in (
         told (k .answer) (rw read-is (ap ok (docs-many blocks ∙ whole-count t))),
         rw read-is at (k .docs-after),
         rw read-is at (k .freqs-after),
