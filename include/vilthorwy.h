@@ -56,9 +56,8 @@ uint64_t vilthorwy_write_list(uint8_t mode, uint8_t record, const uint32_t *ids,
                               size_t freqs_len, uint8_t *skips, size_t skips_len, uint8_t *postings, size_t postings_len,
                               uint8_t *output, size_t output_len);
 
-/* The same document by document, closed with an announced count: it asks 1, then 14 of the two lengths, then 11 to 13 of each document
- * and 15 of each block as it fills, then 14 of the announced count, then 15 of the output. A refusal leaves the blocks finished before
- * it in the areas, and output as it was. */
+/* The same by single calls, closed with an announced count: before the first of them it asks 1, then 14 of the two lengths, then 11 to
+ * 13 of each document, then 14 of the announced count, then 15; a refusal changes nothing. */
 uint64_t vilthorwy_write_docs(uint8_t mode, uint8_t record, const uint32_t *ids, size_t ids_len, const uint32_t *freqs,
                               size_t freqs_len, uint32_t announced, uint8_t *skips, size_t skips_len, uint8_t *postings,
                               size_t postings_len, uint8_t *output, size_t output_len);

@@ -25,11 +25,15 @@ pub fn check(list: &List, single: bool) -> Outcome {
             let (count, blocks) = (list.ids.len(), list.ids.len() / 128);
             let ample = [8 * blocks, 1008 * blocks, 1016 * blocks + 10 * count + 10];
             run(By::List, list, ample, Err(number))?;
+            // The lack of room is met last, behind another count than the list's own.
+            run(By::List, list, [0; 3], Err(number))?;
             if single {
-                run(By::Docs(count as u32), list, ample, Err(number))?;
+                for announced in [count as u32, count as u32 + 1] {
+                    run(By::Docs(announced), list, ample, Err(number))?;
+                    run(By::Docs(announced), list, [0; 3], Err(number))?;
+                }
             }
-            // A whole list meets the lack of room last.
-            run(By::List, list, [0; 3], Err(number))
+            Ok(())
         }
     }
 }
@@ -113,10 +117,10 @@ fn accepted(list: &List) -> Outcome {
             }
         }
     }
-    // Closing asks for the announced count before it asks for room.
+    // The announced count is asked for before any room.
     for announced in [count + 1, count.wrapping_sub(1)] {
         run(By::Docs(announced), list, exact, Err(14))?;
-        run(By::Docs(announced), list, [exact[0], exact[1], 0], Err(14))?;
+        run(By::Docs(announced), list, [0; 3], Err(14))?;
     }
     Ok(())
 }
@@ -137,7 +141,7 @@ fn areas<'a>(list: &List, image: &'a [u8]) -> (&'a [u8], &'a [u8]) {
 }
 
 /// Wanted are skip entries, packed blocks and image at the start of the three buffers, or the
-/// refusal. What lies behind must stay.
+/// refusal. What lies behind must stay, and all of it where the list is refused.
 fn run(by: By, list: &List, lengths: [usize; 3], wanted: Result<[&[u8]; 3], u64>) -> Outcome {
     let [skips, postings, output] = lengths.map(|length| unwritten(length).to_vec());
     let mut lent = Lent { skips, postings, output };
@@ -155,10 +159,6 @@ fn run(by: By, list: &List, lengths: [usize; 3], wanted: Result<[&[u8]; 3], u64>
     };
     let [skips, postings, output] = wanted.unwrap_or_default();
     holds("output", &lent.output, output)?;
-    // Blocks that single documents finished before the refused call stay in the areas.
-    if matches!((by, wanted), (By::Docs(_), Err(_))) {
-        return Ok(());
-    }
     holds("skips", &lent.skips, skips)?;
     holds("postings", &lent.postings, postings)
 }

@@ -1,2 +1,2 @@
-mod Runs
+mod EachTaken
 pub mod ToldApart

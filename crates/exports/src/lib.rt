@@ -5,18 +5,19 @@ mod mark;
 mod reading;
 
 use crate::mark::mark;
-use format::COUNT_MISMATCH;
 use serializer::Accepted;
 use serializer::PostingsSerializer;
-use serializer::Step;
 use serializer::Written;
+use serializer::ask_list;
 use serializer::close_term;
 use serializer::new_term;
 use serializer::write_doc;
 use serializer::write_list;
 ghost use mathlib.Core.Path.{_≡_};
 ghost use lib.ListN.{length};
-ghost use Rattle.exports.specs.Exports.{coded, recorded, runDocs, endRun, docsLeft, ListCoded, Ran, Leaves, LeavesCoded};
+ghost use Rattle.serializer.specs.Writer.{Areas};
+ghost use Rattle.serializer.specs.Calls.{ListedAs};
+ghost use Rattle.exports.specs.Exports.{coded, ListCoded, DocsCoded, Takes, Announced};
 
 // A number of bytes as it is, and a refusal with its mark.
 fn code(answer: Written) -> u64
@@ -45,39 +46,31 @@ pub extern "C" fn vilthorwy_write_list(
     code(write_list(mode, recording != 0, ids, freqs, skips, postings, output))
 }
 
-// Hands the documents in one by one, up to the first that is refused.
+// Hands the documents in one by one, each of which is taken; the state behind them.
 fn write_each(
     state: PostingsSerializer,
     ids: &[u32],
     freqs: &[u32],
     skips: &mut [u8],
     postings: &mut [u8],
-) -> Step
-    requires { ⌜ length (now ids) ≡ length (now freqs) ⌝ }
-    ensures { λ r. ⌜ Ran (runDocs state (now (ids .entry)) (now (freqs .entry)) (now (skips .entry)) (now (postings .entry)))
-        (now (skips .exit)) (now (postings .exit)) r ⌝ }
+) -> PostingsSerializer
+    requires { ⌜ (length (now ids) ≡ length (now freqs))
+        × ((a : Areas) × Takes state (now ids) (now freqs) (now skips) (now postings) a) ⌝ }
+    ensures { λ r. ⌜ Takes state (now (ids .entry)) (now (freqs .entry)) (now (skips .entry)) (now (postings .entry))
+        (record { state = r; skips = now (skips .exit); postings = now (postings .exit) }) ⌝ }
 {
     let mut held = state;
     for i in 0..ids.len() {
         let step = write_doc(held, ids[i], freqs[i], skips, postings);
-        let answer = step.answer;
-        let Accepted::Yes = answer else {
-            return Step {
-                answer,
-                state: held,
-            };
-        };
         held = step.state;
     }
-    Step {
-        answer: Accepted::Yes,
-        state: held,
-    }
+    held
 }
 
-// Documents, then closing where none was refused.
+// Writes a list whose questions were all answered yes: a term is begun, each document written, and the term closed.
 fn write_term(
-    state: PostingsSerializer,
+    mode: u8,
+    recording: bool,
     ids: &[u32],
     freqs: &[u32],
     announced: u32,
@@ -85,21 +78,19 @@ fn write_term(
     postings: &mut [u8],
     output: &mut [u8],
 ) -> Written
-    requires { ⌜ length (now ids) ≡ length (now freqs) ⌝ }
-    ensures { λ r. ⌜ Leaves (endRun (runDocs state (now (ids .entry)) (now (freqs .entry)) (now (skips .entry)) (now (postings .entry)))
-        announced (now (output .entry))) (now (skips .exit)) (now (postings .exit)) (now (output .exit)) r ⌝ }
+    requires { ⌜ Announced mode recording announced (now ids) (now freqs) (now skips) (now postings) (now output) ⌝ }
+    ensures { λ r. ⌜ ListedAs mode recording announced (now (ids .entry)) (now (freqs .entry))
+        (now (skips .entry)) (now (postings .entry)) (now (output .entry))
+        (now (skips .exit)) (now (postings .exit)) (now (output .exit)) r ⌝ }
 {
-    let step = write_each(state, ids, freqs, skips, postings);
-    let answer = step.answer;
-    if let Accepted::Refused(n) = answer {
-        return Written::Refused(n);
-    }
-    let closed = close_term(step.state, announced, skips, postings, output);
+    let begun = new_term(mode, recording);
+    let held = write_each(begun.state, ids, freqs, skips, postings);
+    let closed = close_term(held, announced, skips, postings, output);
     closed.answer
 }
 
-// The same by single calls: a term is begun, each document written, and the term closed with the announced count. As for a whole list, 1
-// is asked first, then 14 of slices of different length.
+// The same by single calls, under an announced count. Every question is asked before the first of them, as for a whole list, with 14 for
+// another count behind the documents' questions, so that a refusal changes nothing.
 #[no_mangle]
 pub extern "C" fn vilthorwy_write_docs(
     mode: u8,
@@ -111,17 +102,32 @@ pub extern "C" fn vilthorwy_write_docs(
     postings: &mut [u8],
     output: &mut [u8],
 ) -> u64
-    ensures { λ r. ⌜ LeavesCoded (docsLeft mode (recorded recording) (now (ids .entry)) (now (freqs .entry)) announced
-        (now (skips .entry)) (now (postings .entry)) (now (output .entry)))
+    ensures { λ r. ⌜ DocsCoded mode recording (now (ids .entry)) (now (freqs .entry)) announced
+        (now (skips .entry)) (now (postings .entry)) (now (output .entry))
         (now (skips .exit)) (now (postings .exit)) (now (output .exit)) r ⌝ }
 {
-    let begun = new_term(mode, recording != 0);
-    let answer = begun.answer;
-    if let Accepted::Refused(n) = answer {
-        return code(Written::Refused(n));
+    let recorded = recording != 0;
+    let asked = ask_list(
+        mode,
+        recorded,
+        ids,
+        freqs,
+        announced as usize,
+        skips,
+        postings,
+        output,
+    );
+    if let Accepted::Refused(n) = asked {
+        return mark(n);
     }
-    if ids.len() != freqs.len() {
-        return code(Written::Refused(COUNT_MISMATCH));
-    }
-    code(write_term(begun.state, ids, freqs, announced, skips, postings, output))
+    code(write_term(
+        mode,
+        recorded,
+        ids,
+        freqs,
+        announced,
+        skips,
+        postings,
+        output,
+    ))
 }

@@ -75,7 +75,7 @@ module _ (ds fs skips postings area : List ℕ) where
             let z : _≡_ {A = ℕ} 0 1 = cc in
             absurd (omega arith)
 
-    pub wrote-none : (n : ℕ) → length skips ≡ 1024 → length postings ≡ 131072 → length area ≡ 135168 → r ≡ Refused n → listing ds fs ≡ refusal
+    pub wrote-none : (n : ℕ) → length skips ≡ 1024 → length postings ≡ 131072 → length area ≡ 163840 → r ≡ Refused n → listing ds fs ≡ refusal
     unfolding answered
     wrote-none n s p a e = go (written 1 true ds fs) refl
       where

@@ -37,10 +37,10 @@ fn postings_area() -> [u8; 131072]
 }
 
 // .. for both with the skip length in front, and a tail.
-fn image_area() -> [u8; 135168]
-    ensures { λ r. ⌜ length r ≡ 135168 ⌝ }
+fn image_area() -> [u8; 163840]
+    ensures { λ r. ⌜ length r ≡ 163840 ⌝ }
 {
-    [0; 135168]
+    [0; 163840]
 }
 
 // Puts the one line of a refusal.

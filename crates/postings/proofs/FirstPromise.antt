@@ -82,7 +82,7 @@ unfolding answered
 refusal-answered bytes (ok a) e = absurd (let z : _≡_ {A = ℕ} 0 1 = cc in omega arith)
 refusal-answered bytes (refused m) e = cc
 
-not-accepted : {A : Type 0} (o : Outcome A) {n : ℕ} → accepted o ≡ No n → o ≡ refused n
+pub not-accepted : {A : Type 0} (o : Outcome A) {n : ℕ} → accepted o ≡ No n → o ≡ refused n
 unfolding accepted
 not-accepted (ok a) e = absurd (let z : _≡_ {A = ℕ} 0 1 = cc in omega arith)
 not-accepted (refused m) e = cc

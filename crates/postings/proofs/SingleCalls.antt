@@ -97,7 +97,7 @@ room-front : (bs area : List ℕ) → length bs ≤ length area → fitsAt 0 bs 
 room-front bs area h = front-fits bs area ∙ le-leb _ _ h
 
 -- an answer is yes exactly where nothing is refused
-accepted-yes : {A : Type 0} (o : Outcome A) → (accepted o ≡ Yes) ↔ ((a : A) × (o ≡ ok a))
+pub accepted-yes : {A : Type 0} (o : Outcome A) → (accepted o ≡ Yes) ↔ ((a : A) × (o ≡ ok a))
 unfolding accepted
 accepted-yes (ok a) = (λ _. (a, refl), λ _. refl)
 accepted-yes (refused n) = (λ e. let z : _≡_ {A = ℕ} 0 1 = cc in absurd (omega arith), λ p. absurd (refused≢ok (p .1)))

@@ -1,48 +1,21 @@
--- `exports::vilthorwy_write_docs` meets its contract: an unknown mode is refused first, then slices of different length.
+-- `exports::vilthorwy_write_docs` meets its contract: a refusal comes before the first call.
 -- Assumes nothing.
 use borrow.Author.Needs.{needs}
-use Rattle.exports.specs.Exports.{recorded}
-use Rattle.exports.proofs.Runs.{docs-refused, docs-differ, docs-run, coded-refusal, coded-leaves}
+use mathlib.Core.Path.{sym, _∙_}
+use Rattle.postings.proofs.FirstPromise.{not-accepted}
+use Rattle.postings.proofs.SingleCalls.{accepted-yes}
+use Rattle.exports.proofs.EachTaken.{coded-refused}
 use Rattle.exports.proofs.vilthorwy_write_docs.Statement.{statement}
 use Rattle.exports.proofs.vilthorwy_write_docs.Tie as tie
 
-new-term-requires : tie.Need-new-term-requires
-new-term-requires c κs = search needs
+ask-list-requires : tie.Need-ask-list-requires
+ask-list-requires c κs = search needs
 
-enum-known-answer : tie.Need-enum-known-answer
-enum-known-answer c = search needs
+enum-known-asked : tie.Need-enum-known-asked
+enum-known-asked c = search needs
 
-code-requires : tie.Need-code-requires
-code-requires c κs = search needs
-
-returns : tie.Need-returns
-returns c =
-    let begun = c .before .before .before .before in
-    let a = begun .before .before .before .before .before .before .args in
-    coded-refusal _ _ _ _ _ _
-    (docs-refused (a .mode) (recorded (a .recording)) _ _ (a .announced) _ _ _ _ (begun .new-term .ensures) (c .before .before .answer .given .1))
-    (c .code .ensures)
-
-enum-told : tie.Need-enum-told
-enum-told c = search needs
-
-code-requires-2 : tie.Need-code-requires-2
-code-requires-2 c κs = search needs
-
-returns-2 : tie.Need-returns-2
-returns-2 c =
-    let told = c .before .before in
-    let begun = told .before .before in
-    let a = begun .before .before .before .before .before .before .args in
-    coded-refusal _ _ _ _ _ _
-    (docs-differ (a .mode) (recorded (a .recording)) _ _ (a .announced) _ _ _ _ (begun .new-term .ensures) (told .enum-told .given .1) (c .before .if1 .taken))
-    (c .code2 .ensures)
-
-write-term-requires : tie.Need-write-term-requires
-write-term-requires c κs = search needs
-
-code-requires-3 : tie.Need-code-requires-3
-code-requires-3 c κs = search needs
+mark-requires : tie.Need-mark-requires
+mark-requires c κs = search needs
 
 same-length : tie.Need-same-length
 same-length c = search needs
@@ -53,31 +26,51 @@ same-length-2 c = search needs
 same-length-3 : tie.Need-same-length-3
 same-length-3 c = search needs
 
-returns-3 : tie.Need-returns-3
-returns-3 c =
-    let wrote = c .before .before .before .before .before .before .before in
-    let same = wrote .before .before .before .before in
-    let told = same .before in
-    let begun = told .before .before in
-    let a = begun .before .before .before .before .before .before .args in
-    coded-leaves
-    (docs-run (a .mode) (recorded (a .recording)) _ _ (a .announced) _ _ _ _ (begun .new-term .ensures) (told .enum-told .given .1) (same .if1 .left))
-    (wrote .write-term .ensures) (c .code3 .ensures)
+returns : tie.Need-returns
+returns c =
+    let asked = c .before .before .before .before in
+    let a = asked .before .before .before .before .before .before .before .before .before .args in
+    let no = not-accepted _ (sym (asked .ask-list .ensures) ∙ c .before .before .asked .given .1) in
+    coded-refused (a .mode) (a .recording) _ _ _ _ _ no (c .mark .ensures)
+
+enum-told : tie.Need-enum-told
+enum-told c = search needs
+
+write-term-requires : tie.Need-write-term-requires
+write-term-requires c κs =
+    let told = c .before .before .before in
+    accepted-yes _ .0 (sym (told .before .before .ask-list .ensures) ∙ told .enum-told .given .1)
+
+code-requires : tie.Need-code-requires
+code-requires c κs = search needs
+
+same-length-4 : tie.Need-same-length-4
+same-length-4 c = search needs
+
+same-length-5 : tie.Need-same-length-5
+same-length-5 c = search needs
+
+same-length-6 : tie.Need-same-length-6
+same-length-6 c = search needs
+
+returns-2 : tie.Need-returns-2
+returns-2 c = search needs
 
 pub vilthorwy-write-docs-spec : {M : Type 1} → statement M
 vilthorwy-write-docs-spec =
     tie.close
     (tie.spec
-    new-term-requires
-    enum-known-answer
-    code-requires
-    returns
-    enum-told
-    code-requires-2
-    returns-2
-    write-term-requires
-    code-requires-3
+    ask-list-requires
+    enum-known-asked
+    mark-requires
     same-length
     same-length-2
     same-length-3
-    returns-3)
+    returns
+    enum-told
+    write-term-requires
+    code-requires
+    same-length-4
+    same-length-5
+    same-length-6
+    returns-2)

@@ -1,15 +1,43 @@
--- `exports::write_term` meets its contract: a refused document is the answer, and else that of closing.
+-- `exports::write_term` meets its contract: every call says yes, since the questions were all answered so.
 -- Assumes nothing.
+use mathlib.Core.Path.{_≡_, ap}
+use Prim.Native.Nat.{_^_}
+use native.Mathlib.Omega.{arith}
 use borrow.Author.Needs.{needs}
-use Rattle.exports.proofs.Runs.{end-stop, end-close}
+use denote.Ref.{now}
+use Rattle.format.specs.Basics.{AllBelow}
+use Rattle.format.proofs.Lists.{allBelow-of}
+use Rattle.serializer.specs.declared.Step.{Step}
+use Rattle.serializer.specs.Calls.{beginning}
+use Rattle.serializer.specs.Writer.{fresh}
+use Rattle.exports.proofs.EachTaken.{term-takes, term-left}
 use Rattle.exports.proofs.write_term.Statement.{statement}
 use Rattle.exports.proofs.write_term.Tie as tie
 
-write-each-requires : tie.Need-write-each-requires
-write-each-requires c κs = search needs
+new-term-requires : tie.Need-new-term-requires
+new-term-requires c κs = search needs
 
-enum-known-answer : tie.Need-enum-known-answer
-enum-known-answer c = search needs
+-- the state of a term that is begun
+module _ (c : tie.After-new-term) where
+  abbrev start : tie.Start
+  start = c .before .before .before .before .before .before
+
+  small : AllBelow (2 ^ 32) (now (start .args .freqs))
+  small = allBelow-of {m = 2 ^ 32} (now (start .args .freqs)) (λ i. omega (arith, c .before .before .before .before .shared-slice-known2 .given i))
+
+  begun-fresh : c .new-term .result .state ≡ fresh (start .args .mode) (start .args .recording)
+  unfolding beginning
+  begun-fresh = ap (λ (s : Step). s .state) (c .new-term .ensures)
+
+write-each-requires : tie.Need-write-each-requires
+write-each-requires c κs =
+    let begun = c .before .before in
+    let a = start begun .args in
+    rw (begun-fresh begun)
+    (term-takes (a .mode) (a .recording) (a .announced) _ _ _ _ (now (a .output)) (small begun) (start begun .pre .1))
+
+close-term-requires : tie.Need-close-term-requires
+close-term-requires c κs = search needs
 
 same-length : tie.Need-same-length
 same-length c = search needs
@@ -17,45 +45,26 @@ same-length c = search needs
 same-length-2 : tie.Need-same-length-2
 same-length-2 c = search needs
 
-returns : tie.Need-returns
-returns c =
-    let w = c .before .before .before .before .before .before .before in
-    end-stop _ _ _ _ _ _ (w .write-each .ensures) (c .before .answer .given .1)
-
-enum-told : tie.Need-enum-told
-enum-told c = search needs
-
-close-term-requires : tie.Need-close-term-requires
-close-term-requires c κs = search needs
-
 same-length-3 : tie.Need-same-length-3
 same-length-3 c = search needs
 
-same-length-4 : tie.Need-same-length-4
-same-length-4 c = search needs
-
-same-length-5 : tie.Need-same-length-5
-same-length-5 c = search needs
-
-returns-2 : tie.Need-returns-2
-returns-2 c =
+returns : tie.Need-returns
+returns c =
     let closed = c .before .before in
-    let told = closed .before .before .before .before in
-    let w = told .before .before .before .before .before .before in
-    end-close _ _ _ _ _ _ (w .write-each .ensures) _ _ (told .enum-told .given .1) (closed .close-term .ensures)
+    let wrote = closed .before .before .before .before .before .before .before .before in
+    let begun = wrote .before .before .before in
+    let a = start begun .args in
+    term-left (a .mode) (a .recording) (a .announced) _ _ _ _ _ (small begun) (start begun .pre .1)
+    (rw (begun-fresh begun) at (wrote .write-each .ensures)) (closed .close-term .ensures)
 
 pub write-term-spec : {M : Type 1} → statement M
 write-term-spec =
     tie.close
     (tie.spec
+    new-term-requires
     write-each-requires
-    enum-known-answer
+    close-term-requires
     same-length
     same-length-2
-    returns
-    enum-told
-    close-term-requires
     same-length-3
-    same-length-4
-    same-length-5
-    returns-2)
+    returns)
