@@ -31,7 +31,8 @@ use Rattle.serializer.specs.declared.Written.the-variants.{Bytes, Refused}
 use Rattle.serializer.specs.Writer.{Areas, listing, closing}
 use Rattle.serializer.specs.Calls.{accepted, answered, Settled, Closed, Listed}
 use Rattle.serializer.proofs.Laws.WholeList.{HasRoom, whole-list-writes}
-use Rattle.segment_postings.proofs.Admission.AdmissionExact.{Meets, MeetsNone, admission-admits, admission-refuses}
+use Rattle.segment_postings.specs.Admission.{Meets, MeetsNone}
+use Rattle.segment_postings.proofs.Admission.AdmissionExact.{admission-admits, admission-refuses}
 
 -- ---- accepted lists
 

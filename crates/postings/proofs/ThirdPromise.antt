@@ -41,7 +41,8 @@ use Rattle.segment_postings.specs.declared.SegmentPostings.{SegmentPostings}
 use Rattle.segment_postings.specs.Cursor.{answering, moved, opened, stepping, seeking, advanced, sought}
 use Rattle.segment_postings.specs.Calls.{cursorOf, Reaches}
 use Rattle.segment_postings.specs.Called.{shown, called, callsFrom, calls, cursorAfter, positions, modelNumbers}
-use Rattle.segment_postings.proofs.Laws.CallsByValue.{SameCall, open-in-calls, advance-in-calls, seek-in-calls}
+use Rattle.segment_postings.specs.Called.{SameCall}
+use Rattle.segment_postings.proofs.Laws.CallsByValue.{open-in-calls, advance-in-calls, seek-in-calls}
 use Rattle.segment_postings.proofs.Laws.LandingParts.{answering-at, answerAt-at}
 use Rattle.segment_postings.proofs.Simulation.CallsSimulate.{calls-show, calls-stand, calls-count, calls-doc, calls-freq, calls-numbers}
 use Rattle.segment_postings.proofs.Simulation.StepSimulates.{answer-agrees}

@@ -17,7 +17,7 @@ use Rattle.segment_postings.specs.declared.SegmentPostings.{SegmentPostings}
 use Rattle.segment_postings.specs.declared.Value.{Value}
 use Rattle.segment_postings.specs.Cursor.{answering, docAt, freqAt}
 use Rattle.segment_postings.specs.Calls.{valued}
-use Rattle.segment_postings.proofs.Simulation.CallsSimulate.{Counts}
+use Rattle.segment_postings.specs.Called.{Counts}
 use Rattle.segment_postings.specs.Called.{shown, valueNumbers, allNumbers, positions, modelNumbers}
 
 -- no number twice

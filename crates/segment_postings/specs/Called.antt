@@ -3,17 +3,23 @@
 -- caller's record what the call by value hands back.
 -- Assumes nothing.
 use mathlib.Core.List.{List, [], _∷_, _++_}
+use mathlib.Core.Path.{_≡_}
 use Prim.Native.Nat.{ℕ}
+use lib.ListN.{length}
 use Rattle.format.specs.declared.Term.{Term}
 use Rattle.format.specs.Model.{Answer as Shown, at, refused, Call, step, seek, State, after, entriesRead}
 use Rattle.format.specs.Model as model
 use Rattle.segment_postings.specs.declared.Answer.{Answer}
 use Rattle.segment_postings.specs.declared.Answer.the-variants.{At, Refused}
+use Rattle.segment_postings.specs.declared.Held.{Held}
 use Rattle.segment_postings.specs.declared.Moved.{Moved}
+use Rattle.segment_postings.specs.declared.Reached.{Reached}
+use Rattle.segment_postings.specs.declared.Reached.the-variants as reached-as
 use Rattle.segment_postings.specs.declared.SegmentPostings.{SegmentPostings}
 use Rattle.segment_postings.specs.declared.Value.{Value}
 use Rattle.segment_postings.specs.declared.Value.the-variants as value-as
-use Rattle.segment_postings.specs.Cursor.{opened, advanced, sought}
+use Rattle.segment_postings.specs.Cursor.{position, answering, opened, advanced, sought}
+use Rattle.segment_postings.specs.Calls.{cursorOf}
 
 -- what the model says of an answer: document, frequency and blocks unpacked
 unfoldable pub shown : Answer → Shown
@@ -82,3 +88,18 @@ unfolding shownNumbers entriesRead
 modelNumbers n [] ps = []
 modelNumbers n (a ∷ rest) [] = []
 modelNumbers n (a ∷ rest) (p ∷ ps) = shownNumbers a (entriesRead n p) ++ modelNumbers n rest ps
+
+-- ---- beside the model, and beside a call on two lent arrays
+
+-- a cursor beside the model's state
+pub record Counts (t : Term) (c : SegmentPostings) (m : State) : Type 0 where
+  pub at-position : position c ≡ m .position
+  pub unpacked-visited : c .unpacked ≡ length (m .visited)
+  pub entries-are : c .entries ≡ entriesRead (t .count) (m .position)
+
+-- a call on lent arrays beside the call by value on the cursor `was`, which gives m
+pub record SameCall (t : Term) (was : SegmentPostings) (m : Moved) (docs freqs docs′ freqs′ : List ℕ) (r : Reached) : Type 0 where
+  pub came : {held : Held} → r ≡ reached-as.At held
+      → m ≡ record { answer = answering t (cursorOf held docs′ freqs′); cursor = cursorOf held docs′ freqs′ }
+  pub stayed : {n : ℕ} → r ≡ reached-as.Refused n
+      → (m ≡ record { answer = Refused n; cursor = was }) × (docs′ ≡ docs) × (freqs′ ≡ freqs)

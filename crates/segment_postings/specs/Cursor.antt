@@ -1,80 +1,22 @@
--- What the cursor's calls answer and leave, on every input.
+-- The calls on a cursor: what each answers and leaves, on every input.
 -- Assumes nothing.
-use mathlib.Core.Bool.{Bool, false, _&&_ as and, _||_ as or}
-use mathlib.Core.List.{List, _++_}
-use Prim.Native.Nat.{ℕ, zero, suc, _+_, _-_, _*_, min}
-use lib.ListN.{length, drop, getD, replicate}
+use mathlib.Core.Bool.{Bool, _&&_ as and, _||_ as or}
+use mathlib.Core.List.{List}
+use Prim.Native.Nat.{ℕ, _+_, _*_, min}
+use lib.ListN.{length, getD, replicate}
 use lib.Dec.{eqb, leb, ltb}
-use Rattle.format.specs.declared.BlockInfo.{BlockInfo}
-use Rattle.format.specs.declared.IndexRecordOption.{IndexRecordOption}
 use Rattle.format.specs.declared.Layout.{Layout}
 use Rattle.format.specs.declared.Term.{Term}
 use Rattle.format.specs.Basics.{Outcome, ok, refused, andThen, ask, choose, TERMINATED}
 use Rattle.format.specs.Refusal.{entryBroken, targetTooLarge, stateBroken}
-use Rattle.format.specs.SkipEntry.{hasFreq, entrySize, readEntry, blockSize, entryFits}
-use Rattle.format.specs.Layout.{layout, fullBlocks, tailLength, skipBytes}
-use Rattle.format.specs.Reading.{Block, fullBlock, tailBlock}
+use Rattle.format.specs.Layout.{layout, fullBlocks}
 use Rattle.block_search.specs.Search.{searchBlock}
 use Rattle.segment_postings.specs.declared.SegmentPostings.{SegmentPostings}
 use Rattle.segment_postings.specs.declared.Answer.{Answer}
 use Rattle.segment_postings.specs.declared.Answer.the-variants.{At, Refused}
 use Rattle.segment_postings.specs.declared.Moved.{Moved}
-use Rattle.segment_postings.specs.declared.Found.{Found}
-
--- ---- the block that a walk or a seek lands on
-
--- the tail has no entry: no bits, and TERMINATED for its last id
-unfoldable pub tailInfo : BlockInfo
-tailInfo = record { «last_doc» = TERMINATED; «doc_width» = 0; strict = false; «freq_width» = 0 }
-
--- from block b on, of which n full ones are left, the first whose last id is at least the target, or the tail. Entries are read one
--- by one, and each is asked question 5, that of a block passed over too
-unfoldable pub findBlock : IndexRecordOption → List ℕ → List ℕ → ℕ → ℕ → ℕ → ℕ → ℕ → ℕ → Outcome Found
-unfolding ask choose tailInfo readEntry entrySize entryFits blockSize
-findBlock option skips bs target zero b at least entries =
-    ok (record { block = b; at = at; least = least; info = tailInfo; entries = entries })
-findBlock option skips bs target (suc n) b at least entries =
-    let e : BlockInfo = readEntry option (drop (entrySize option * b) skips) in
-    ask (entryFits least (length bs - at) e) entryBroken λ _.
-    choose (leb target (e .«last_doc»))
-    (λ _. ok (record { block = b; at = at; least = least; info = e; entries = entries + 1 }))
-    (λ _. findBlock option skips bs target n (b + 1) (at + blockSize e) (e .«last_doc» + 1) (entries + 1))
-
--- questions 6 to 9, of the block found
-unfoldable pub loadBlock : Term → Layout → List ℕ → Found → Outcome Block
-unfolding choose fullBlocks tailLength hasFreq fullBlock tailBlock
-loadBlock t l bs f =
-    choose (ltb (f .block) (fullBlocks t))
-    (λ _. fullBlock (and (hasFreq (l .option)) (ltb 0 (t .requested))) (f .least) (f .info) (drop (f .at) bs))
-    (λ _. tailBlock (l .option) (ltb 0 (t .requested)) (eqb (fullBlocks t) 0) (tailLength t) (f .least) (drop (f .at) bs))
-
--- 128 places, those behind the values filled up
-unfoldable pub padded : ℕ → List ℕ → List ℕ
-padded filler values = values ++ replicate (128 - length values) filler
-
--- the cursor at the first place of the block
-unfoldable pub holding : Found → ℕ → Block → SegmentPostings
-unfolding padded blockSize
-holding f unpacked b = record {
-  docs = padded TERMINATED (b .docs);
-  freqs = padded 1 (b .freqs);
-  place = 0;
-  block = f .block;
-  next = f .at + blockSize (f .info);
-  «last_doc» = f .info .«last_doc»;
-  unpacked = unpacked + 1;
-  entries = f .entries;
-}
-
--- the first block from block b on whose last id is at least the target, unpacked
-unfoldable pub landing : Term → List ℕ → Layout → ℕ → ℕ → ℕ → ℕ → ℕ → ℕ → Outcome SegmentPostings
-unfolding andThen findBlock loadBlock holding fullBlocks skipBytes
-landing t bs l target b at least entries unpacked =
-    andThen (findBlock (l .option) (skipBytes l bs) bs target (fullBlocks t - b) b at least entries) λ f.
-    andThen (loadBlock t l bs f) λ block.
-    ok (holding f unpacked block)
-
--- ---- the calls
+use Rattle.segment_postings.specs.declared.find.Start.{Start}
+use Rattle.segment_postings.specs.Landing.{firstStart, landing}
 
 unfoldable pub position : SegmentPostings → ℕ
 position c = 128 * c .block + c .place
@@ -127,7 +69,7 @@ blank = record {
 -- opening reads entry 0, if any, and unpacks block 0
 unfoldable pub opening : List ℕ → Term → Outcome SegmentPostings
 unfolding andThen layout landing
-opening bs t = andThen (layout t bs) λ l. landing t bs l 0 0 (l .postings) 0 0 0
+opening bs t = andThen (layout t bs) λ l. landing t bs l 0 (firstStart l)
 
 unfoldable pub opened : List ℕ → Term → Moved
 unfolding moved blank opening
@@ -156,6 +98,16 @@ unfoldable pub startsInside : Term → Layout → ℕ → ℕ → Bool
 unfolding fullBlocks
 startsInside t l b at = or (leb (fullBlocks t) b) (leb (l .postings) at)
 
+-- the block behind the held one
+abbrev pub startBehind : SegmentPostings → Start
+startBehind c = record {
+  block = c .block + 1;
+  at = c .next;
+  least = leastAfter (c .«last_doc»);
+  entries = c .entries;
+  unpacked = c .unpacked;
+}
+
 -- another block: questions 1 to 4 are asked again of the image that is passed, then 5 to 9. A lent cursor that didn't come
 -- from this image may place its next block before the posting bytes; blocks found behind that one begin behind it
 unfoldable pub leaving : SegmentPostings → List ℕ → Term → ℕ → Outcome SegmentPostings
@@ -163,7 +115,7 @@ unfolding andThen ask layout startsInside landing leastAfter
 leaving c bs t target =
     andThen (layout t bs) λ l.
     ask (startsInside t l (c .block + 1) (c .next)) entryBroken λ _.
-    landing t bs l target (c .block + 1) (c .next) (leastAfter (c .«last_doc»)) (c .entries) (c .unpacked)
+    landing t bs l target (startBehind c)
 
 -- a step: 16; at the end nothing; else one place on, in the held block or the next
 unfoldable pub stepping : SegmentPostings → List ℕ → Term → Outcome SegmentPostings

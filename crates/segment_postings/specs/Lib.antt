@@ -1,6 +1,10 @@
+pub mod Admission
 pub mod Called
 pub mod Calls
 pub mod Cursor
+pub mod Landing
+pub mod LooksAt
 pub mod Passed
+pub mod Private
 pub mod ReadWhole
 pub mod Taken

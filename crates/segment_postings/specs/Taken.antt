@@ -14,10 +14,10 @@ use Rattle.format.specs.Refusal.{docsNotRising, freqOutOfRange, numberBroken, b
 use Rattle.format.specs.Values.{origin, ids, restored, rising, countable}
 use Rattle.format.specs.Layout.{fullBlocks}
 use Rattle.format.specs.Reading.{Block}
-use Rattle.segment_postings.specs.declared.Found.{Found}
+use Rattle.segment_postings.specs.declared.find.Found.{Found}
 use Rattle.segment_postings.specs.declared.load.Taken.{Taken}
-use Rattle.segment_postings.specs.Calls.{FoundThere}
-use Rattle.segment_postings.specs.Cursor.{loadBlock}
+use Rattle.segment_postings.specs.Private.{FoundThere}
+use Rattle.segment_postings.specs.Landing.{loadBlock}
 
 -- a full block: its numbers are packed, so that all are there, and its bytes end where its entry says
 abbrev pub fullTaken : BlockInfo → Bool → ℕ → Taken

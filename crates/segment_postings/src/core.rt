@@ -2,15 +2,16 @@
 // take it apart, lend its arrays and put it together again; loops over many calls use these functions and copy no array.
 
 use crate::Answer;
-use crate::Found;
 use crate::Held;
-use crate::Laid;
-use crate::Loaded;
 use crate::Reached;
-use crate::Search;
+use crate::find::Found;
+use crate::find::Search;
+use crate::find::Start;
 use crate::find::find_block;
+use crate::layout::Laid;
 use crate::layout::full_blocks;
 use crate::layout::lay_out;
+use crate::load::Loaded;
 use crate::load::load_block;
 use format::COMPRESSION_BLOCK_SIZE;
 use format::ENTRY_BROKEN;
@@ -25,8 +26,10 @@ ghost use mathlib.Core.List.{List};
 ghost use Prim.Native.Nat.{ℕ, _+_, _*_, _/_, _<_, _^_};
 ghost use lib.Dec.{eqb};
 ghost use lib.ListN.{length};
-ghost use Rattle.segment_postings.specs.Cursor.{inBounds, answering, landing, opening, leastAfter, startsInside, leaving, stepping};
-ghost use Rattle.segment_postings.specs.Calls.{cursorOf, FoundThere, FindsFrom, Reaches, loaded};
+ghost use Rattle.segment_postings.specs.Landing.{landing};
+ghost use Rattle.segment_postings.specs.Cursor.{inBounds, answering, opening, leastAfter, startsInside, leaving, stepping};
+ghost use Rattle.segment_postings.specs.Calls.{cursorOf, Reaches};
+ghost use Rattle.segment_postings.specs.Private.{FoundThere, FindsFrom, loaded};
 
 // Question 16 of a cursor over an image of `size` bytes: it is asked of the numbers alone.
 pub(crate) fn in_bounds(held: Held, term: Term, size: usize) -> bool
@@ -124,25 +127,21 @@ fn unpack_found(
     }
 }
 
-// Goes to the first block from `block` on whose last id is at least the target, and unpacks it: questions 5 to 9.
+// Goes to the first block from a block on whose last id is at least the target, and unpacks it: questions 5 to 9.
 pub(crate) fn land(
     image: &[u8],
     term: Term,
     layout: Layout,
     target: u32,
-    block: usize,
-    at: usize,
-    least: u32,
-    entries: usize,
-    unpacked: usize,
+    from: Start,
     docs: &mut [u32; 128],
     freqs: &mut [u32; 128],
 ) -> Reached
-    requires { ⌜ FindsFrom term layout (now image) block at entries × (unpacked + 1 < 2 ^ 64) ⌝ }
-    ensures { λ r. ⌜ Reaches (landing term (now (image .entry)) layout target block at least entries unpacked) (now (docs .entry)) (now (freqs .entry)) (now (docs .exit)) (now (freqs .exit)) r ⌝ }
+    requires { ⌜ FindsFrom term layout (now image) from × (from .unpacked + 1 < 2 ^ 64) ⌝ }
+    ensures { λ r. ⌜ Reaches (landing term (now (image .entry)) layout target from) (now (docs .entry)) (now (freqs .entry)) (now (docs .exit)) (now (freqs .exit)) r ⌝ }
 {
-    match find_block(image, term, layout, target, block, at, least, entries) {
-        Search::To(found) => unpack_found(image, term, layout, found, unpacked, docs, freqs),
+    match find_block(image, term, layout, target, from) {
+        Search::To(found) => unpack_found(image, term, layout, found, from.unpacked, docs, freqs),
         Search::Refused(n) => Reached::Refused(n),
     }
 }
@@ -153,8 +152,14 @@ pub fn open_in(image: &[u8], term: Term, docs: &mut [u32; 128], freqs: &mut [u32
 {
     match lay_out(image, term) {
         Laid::At(layout) => {
-            let postings = layout.postings;
-            land(image, term, layout, 0, 0, postings, 0, 0, 0, docs, freqs)
+            let from = Start {
+                block: 0,
+                at: layout.postings,
+                least: 0,
+                entries: 0,
+                unpacked: 0,
+            };
+            land(image, term, layout, 0, from, docs, freqs)
         }
         Laid::Refused(n) => Reached::Refused(n),
     }
@@ -201,20 +206,14 @@ pub(crate) fn leave(
             if !starts_inside(term, layout, block, next) {
                 return Reached::Refused(ENTRY_BROKEN);
             }
-            let least = least_after(held.last_doc);
-            land(
-                image,
-                term,
-                layout,
-                target,
+            let from = Start {
                 block,
-                next,
-                least,
-                held.entries,
-                held.unpacked,
-                docs,
-                freqs,
-            )
+                at: next,
+                least: least_after(held.last_doc),
+                entries: held.entries,
+                unpacked: held.unpacked,
+            };
+            land(image, term, layout, target, from, docs, freqs)
         }
         Laid::Refused(again) => Reached::Refused(again),
     }

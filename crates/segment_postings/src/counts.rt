@@ -1,9 +1,10 @@
 // Total: the sum of the frequencies of the documents below a target.
 
-use crate::Laid;
 use crate::Reached;
 use crate::Value;
 use crate::core::land;
+use crate::find::Start;
+use crate::layout::Laid;
 use crate::layout::full_blocks;
 use crate::layout::lay_out;
 use format::COMPRESSION_BLOCK_SIZE;
@@ -82,19 +83,14 @@ fn total_laid(image: &[u8], term: Term, layout: Layout, target: u32) -> Value
     let mut least = 0;
     let mut passed = 0;
     loop {
-        match land(
-            image,
-            term,
-            layout,
-            0,
+        let from = Start {
             block,
             at,
             least,
-            block,
-            block,
-            &mut docs,
-            &mut freqs,
-        ) {
+            entries: block,
+            unpacked: block,
+        };
+        match land(image, term, layout, 0, from, &mut docs, &mut freqs) {
             Reached::At(held) => {
                 let front = block_below(term, block, &docs, &freqs, target);
                 passed += front.freqs;

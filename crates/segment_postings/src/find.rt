@@ -1,7 +1,5 @@
 // The block that a walk or a seek lands on, found by the skip entries alone.
 
-use crate::Found;
-use crate::Search;
 use crate::layout::full_blocks;
 use format::BlockInfo;
 use format::ENTRY_BROKEN;
@@ -19,8 +17,34 @@ ghost use Prim.Native.Nat.{_+_, _-_, _≤_};
 ghost use lib.ListN.{length, drop};
 ghost use Rattle.format.specs.SkipEntry.{entrySize, readEntry};
 ghost use Rattle.format.specs.Layout.{fullBlocks, skipBytes};
-ghost use Rattle.segment_postings.specs.Cursor.{tailInfo, findBlock};
-ghost use Rattle.segment_postings.specs.Calls.{searched, FindsFrom};
+ghost use Rattle.segment_postings.specs.Landing.{tailInfo, findBlock};
+ghost use Rattle.segment_postings.specs.Private.{searched, FindsFrom};
+
+// Where a search starts: a block, where its bytes begin, the least id that it may hold, and the entries read and the blocks unpacked by
+// then.
+pub(crate) struct Start {
+    pub block: usize,
+    pub at: usize,
+    pub least: u32,
+    pub entries: usize,
+    pub unpacked: usize,
+}
+
+// A block that was found by its entry, not yet unpacked: its number, where its bytes begin, the least id that it may hold, and the
+// entries read by then.
+pub(crate) struct Found {
+    pub block: usize,
+    pub at: usize,
+    pub least: u32,
+    pub info: BlockInfo,
+    pub entries: usize,
+}
+
+// The block that a search came to; or the number of the question that was answered no.
+pub(crate) enum Search {
+    To(Found),
+    Refused(u8),
+}
 
 // The tail has no entry: no bits, and TERMINATED for its last id.
 fn tail_info() -> BlockInfo
@@ -45,22 +69,23 @@ fn entry_at(option: IndexRecordOption, skips: &[u8], at: usize) -> BlockInfo
     }
 }
 
-// From `block` on, whose bytes begin at `at`, the first block whose last id is at least the target, or the tail. Entries are read one
-// by one, and each is asked question 5, that of a block passed over too.
+// From a block on, the first whose last id is at least the target, or the tail. Entries are read one by one, and each is asked question
+// 5, that of a block passed over too.
 pub(crate) fn find_block(
     image: &[u8],
     term: Term,
     layout: Layout,
     target: u32,
-    mut block: usize,
-    mut at: usize,
-    mut least: u32,
-    mut entries: usize,
+    from: Start,
 ) -> Search
-    requires { ⌜ FindsFrom term layout (now image) block at entries ⌝ }
+    requires { ⌜ FindsFrom term layout (now image) from ⌝ }
     ensures { λ r. ⌜ r ≡ searched (findBlock (layout .option) (skipBytes layout (now (image .entry))) (now (image .entry)) target
-        (fullBlocks term - block) block at least entries) ⌝ }
+        (fullBlocks term - from .block) from) ⌝ }
 {
+    let mut block = from.block;
+    let mut at = from.at;
+    let mut least = from.least;
+    let mut entries = from.entries;
     let option = layout.option;
     let start = layout.skips;
     let end = layout.postings;

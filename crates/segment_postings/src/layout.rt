@@ -1,6 +1,5 @@
 // Where the parts of an image lie: questions 1 to 4 of document 01, and the split into skip bytes and posting bytes.
 
-use crate::Laid;
 use format::COMPRESSION_BLOCK_SIZE;
 use format::COUNT_TOO_LARGE;
 use format::Layout;
@@ -16,7 +15,14 @@ use vint::read_vint_u64;
 ghost use mathlib.Core.Path.{_≡_};
 ghost use Prim.Native.Nat.{_-_, _/_, _≤_};
 ghost use Rattle.format.specs.Layout.{layout, sized};
-ghost use Rattle.segment_postings.specs.Calls.{laid, splitOf, skipPart, postingPart};
+ghost use Rattle.segment_postings.specs.Calls.{splitOf, skipPart, postingPart};
+ghost use Rattle.segment_postings.specs.Private.{laid};
+
+// Where an image's parts begin; or the number of the question that was answered no.
+pub(crate) enum Laid {
+    At(Layout),
+    Refused(u8),
+}
 
 // Where the skip bytes and the posting bytes begin; or a skip length that question 3 refuses.
 enum Split {

@@ -1,9 +1,6 @@
 // The reader of one term's image: the blocks and the cursor over their documents. The port of block_segment_postings.rs and
 // segment_postings.rs.
 
-use format::BlockInfo;
-use format::Layout;
-
 mod core;
 mod counts;
 mod find;
@@ -64,34 +61,6 @@ pub enum Answer {
 pub struct Moved {
     pub answer: Answer,
     pub cursor: SegmentPostings,
-}
-
-// A block that was found by its entry, not yet unpacked: its number, where its bytes begin, the least id that it may hold, and the
-// entries read by then.
-pub struct Found {
-    pub block: usize,
-    pub at: usize,
-    pub least: u32,
-    pub info: BlockInfo,
-    pub entries: usize,
-}
-
-// Where an image's parts begin; or the number of the question that was answered no.
-pub enum Laid {
-    At(Layout),
-    Refused(u8),
-}
-
-// The block that a search came to; or the number of the question that was answered no.
-pub enum Search {
-    To(Found),
-    Refused(u8),
-}
-
-// How many blocks are unpacked, with one more; or the number of the question that was answered no.
-pub enum Loaded {
-    Unpacked(usize),
-    Refused(u8),
 }
 
 // A cursor without its arrays: what goes through the functions that are lent them.

@@ -1,7 +1,6 @@
 // A block taken out of an image, and questions 6 to 9 of document 01 asked of it.
 
-use crate::Found;
-use crate::Loaded;
+use crate::find::Found;
 use crate::layout::full_blocks;
 use bitpacking::unpack;
 use compression::compressed_block_size;
@@ -28,7 +27,7 @@ ghost use lib.Dec.{eqb, ltb};
 ghost use lib.ListN.{length, drop};
 ghost use Rattle.format.specs.SkipEntry.{hasFreq};
 ghost use Rattle.format.specs.Reading.{tailHasFreq};
-ghost use Rattle.segment_postings.specs.Calls.{FoundThere, BlockLoaded};
+ghost use Rattle.segment_postings.specs.Private.{FoundThere, BlockLoaded};
 ghost use Rattle.segment_postings.specs.Taken.{Takes, ValuesTaken, DocsAsked, FreqsAsked, fullTaken, tailTaken};
 
 // What was taken of a block, beside its values: how many they are, the form they have, whether its numbers were all there, and
@@ -48,6 +47,12 @@ pub struct Taken {
     pub ended: bool,
     // Blocks unpacked so far, with this one.
     pub unpacked: usize,
+}
+
+// How many blocks are unpacked, with one more; or the number of the question that was answered no.
+pub(crate) enum Loaded {
+    Unpacked(usize),
+    Refused(u8),
 }
 
 // What was taken of a full block: its numbers are packed, so that none is missing.

@@ -1,8 +1,9 @@
 // Admission: whether an image is sound, which a walk over all its blocks tells.
 
-use crate::Laid;
-use crate::Search;
+use crate::find::Search;
+use crate::find::Start;
 use crate::find::find_block;
+use crate::layout::Laid;
 use crate::layout::lay_out;
 use crate::load::Taken;
 use crate::load::take_values;
@@ -86,7 +87,14 @@ fn walk(image: &[u8], term: Term, layout: Layout) -> u8
     let mut at = layout.postings;
     let mut least = 0;
     'blocks: loop {
-        let found = match find_block(image, term, layout, 0, block, at, least, block) {
+        let from = Start {
+            block,
+            at,
+            least,
+            entries: block,
+            unpacked: block,
+        };
+        let found = match find_block(image, term, layout, 0, from) {
             Search::To(found) => found,
             Search::Refused(number) => break 'blocks number,
         };

@@ -1,10 +1,11 @@
 // A whole list read into two lent slices.
 
-use crate::Laid;
 use crate::Reached;
 use crate::Value;
 use crate::core::land;
 use crate::counts::docs_in;
+use crate::find::Start;
+use crate::layout::Laid;
 use crate::layout::full_blocks;
 use crate::layout::lay_out;
 use crate::validate::validate;
@@ -46,19 +47,14 @@ fn read_laid(image: &[u8], term: Term, layout: Layout, docs: &mut [u32], freqs: 
     let mut at = layout.postings;
     let mut least = 0;
     loop {
-        match land(
-            image,
-            term,
-            layout,
-            0,
+        let from = Start {
             block,
             at,
             least,
-            block,
-            block,
-            &mut ids,
-            &mut counts,
-        ) {
+            entries: block,
+            unpacked: block,
+        };
+        match land(image, term, layout, 0, from, &mut ids, &mut counts) {
             Reached::At(held) => {
                 put_block(term, block, &ids, docs);
                 put_block(term, block, &counts, freqs);

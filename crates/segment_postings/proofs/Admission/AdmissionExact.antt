@@ -21,8 +21,9 @@ use Rattle.segment_postings.specs.declared.Answer.the-variants.{At, Refu
 use Rattle.segment_postings.specs.declared.Moved.{Moved}
 use Rattle.segment_postings.specs.declared.SegmentPostings.{SegmentPostings}
 use Rattle.segment_postings.specs.Cursor.{moved, blank, opening}
+use Rattle.segment_postings.specs.Admission.{walkAt, Shows, Meets, MeetsNone}
 use Rattle.segment_postings.proofs.Simulation.CallsSimulate.{moved-refused}
-use Rattle.segment_postings.proofs.Admission.WalkByCalls.{walkAt, walkAt-first, unopened, Met, Comes, stands, met, stands-shows, stands-ends, met-is, comes}
+use Rattle.segment_postings.proofs.Admission.WalkByCalls.{walkAt-first, unopened, Met, Comes, stands, met, stands-shows, stands-ends, met-is, comes}
 
 module _ (bs : List ℕ) (t : Term) where
   abbrev docs : List ℕ
@@ -55,17 +56,14 @@ module _ (bs : List ℕ) (t : Term) where
 
   -- ---- the documents and frequencies that are read, in order, with the blocks unpacked and the entries read so far
 
-  abbrev Shows : ℕ → Type 0
-  Shows k = walkAt bs t k .answer ≡ At (getD docs k TERMINATED) (getD freqs k 0) (k / 128 + 1) (min (fullBlocks t) (k / 128 + 1))
-
-  shows-at : {k : ℕ} → Comes bs t k → k < length docs → Shows k
+  shows-at : {k : ℕ} → Comes bs t k → k < length docs → Shows bs t k
   shows-at {k} (stands s) h = elim (decLe (t .count) k) [
     | yes past ↦ absurd (omega (arith, stands-ends bs t s past .1))
     | no short ↦ stands-shows bs t s (omega arith) .1
   ]
   shows-at (met m) h = absurd (omega (arith, m .behind))
 
-  pub walk-shows-all : (k : ℕ) → k < length docs → Shows k
+  pub walk-shows-all : (k : ℕ) → k < length docs → Shows bs t k
   walk-shows-all k h = ⊎-elim (λ o. shows-at (comes bs t (o .1) k) h) (λ o. absurd (omega (arith, unread (o .1) .0))) opens-or-not
 
   -- ---- the refusal, right behind them
@@ -119,28 +117,20 @@ module _ (bs : List ℕ) (t : Term) where
 
   -- ---- the first refusal of the walk
 
-  pub record Meets (n : ℕ) : Type 0 where
-    pub call : ℕ
-    pub refuses : walkAt bs t call .answer ≡ Refused n
-    pub first : (k m : ℕ) → k < call → walkAt bs t k .answer ≡ Refused m → ⊥
-
-  abbrev pub MeetsNone : Type 0
-  MeetsNone = (k n : ℕ) → walkAt bs t k .answer ≡ Refused n → ⊥
-
   shown-once : {k n : ℕ} → k < length docs → walkAt bs t k .answer ≡ Refused n → ⊥
   shown-once {k} h e = let shows = walk-shows-all k h in let z : _≡_ {A = ℕ} 0 1 = cc in omega arith
 
-  met-none : refusal ≡ 0 → MeetsNone
+  met-none : refusal ≡ 0 → MeetsNone bs t
   met-none none k n e = elim (decLe (length docs) k) [
     | yes past ↦ let ends = walk-ends none k past in let z : _≡_ {A = ℕ} 0 1 = cc in omega arith
     | no short ↦ shown-once (omega arith) e
   ]
 
-  met-some : 0 < refusal → Meets refusal
+  met-some : 0 < refusal → Meets bs t refusal
   met-some some = record { call = length docs; refuses = walk-meets some; first = λ k m h e. shown-once h e }
 
   -- two that are first are one
-  met-once : {n m : ℕ} → Meets n → Meets m → n ≡ m
+  met-once : {n m : ℕ} → Meets bs t n → Meets bs t m → n ≡ m
   met-once p q = elim (decLe (p .call) (q .call)) [
     | yes h ↦ ⊎-elim
         (λ (same : p .call ≡ q .call). let a = p .refuses in let b = q .refuses in cc)
@@ -149,16 +139,16 @@ module _ (bs : List ℕ) (t : Term) where
     | no h ↦ absurd (p .first (q .call) _ (omega arith) (q .refuses))
   ]
 
-  pub meets-exactly : (n : ℕ) → 0 < n → (refusal ≡ n) ↔ Meets n
+  pub meets-exactly : (n : ℕ) → 0 < n → (refusal ≡ n) ↔ Meets bs t n
   meets-exactly n some = (
-    λ e. subst Meets e (met-some (omega arith)),
+    λ e. subst (Meets bs t) e (met-some (omega arith)),
     λ p. ⊎-elim
         (λ (none : 0 ≡ refusal). absurd (met-none (sym none) (p .call) n (p .refuses)))
         (λ h. met-once (met-some h) p)
         (eq-or-lt-of-le (omega arith)),
   )
 
-  pub none-exactly : (refusal ≡ 0) ↔ MeetsNone
+  pub none-exactly : (refusal ≡ 0) ↔ MeetsNone bs t
   none-exactly = (
     met-none,
     λ never. ⊎-elim (λ e. sym e) (λ h. absurd (never (length docs) refusal (walk-meets h))) (eq-or-lt-of-le (omega arith)),

@@ -19,16 +19,16 @@ use Rattle.format.specs.Reading.{Block, Reading, nothing, before}
 use Rattle.format.proofs.Outcome.{refused≢ok, ok-same, andThen-ok}
 use Rattle.format.proofs.SkipEntry.{entryFits-true}
 use Rattle.format.proofs.SoundBlock.{SoundBlock, fullBlock-sound, tailBlock-sound, entryBlock-read}
-use Rattle.segment_postings.specs.declared.Found.{Found}
+use Rattle.segment_postings.specs.declared.find.Found.{Found}
 use Rattle.segment_postings.specs.declared.Held.{Held}
 use Rattle.segment_postings.specs.declared.SegmentPostings.{SegmentPostings}
-use Rattle.segment_postings.specs.Cursor.{loadBlock, padded, holding, landing}
+use Rattle.segment_postings.specs.Landing.{loadBlock, padded, holding, landing}
 use Rattle.segment_postings.specs.Calls.{cursorOf}
 use Rattle.segment_postings.specs.Passed.{docsIn}
 use Rattle.segment_postings.proofs.find.FoundBlock.{entryOf}
 use Rattle.segment_postings.proofs.load.BlockQuestions.{load-full, load-tail}
 use Rattle.segment_postings.proofs.Laws.CursorTurns.{landing-is}
-use Rattle.segment_postings.proofs.Admission.WalkReads.{loadedAt, loadedAt-found, loadedAt-numbered, reads-none, readingAt, readingAt-entry, readingAt-tail}
+use Rattle.segment_postings.proofs.Admission.WalkReads.{walking, loadedAt, loadedAt-found, loadedAt-numbered, reads-none, readingAt, readingAt-entry, readingAt-tail}
 use Rattle.segment_postings.proofs.Admission.WalkReads.{entry-same, found-entry, found-same}
 
 -- ---- how many documents a block holds
@@ -105,7 +105,7 @@ module _ (t : Term) (l : Layout) (bs : List ℕ) (b at least : ℕ) where
 
   pub record BlockHeld (h : Held) (docs freqs : List ℕ) : Type 0 where
     pub block : Block
-    pub read : loadedAt t l bs b at least b ≡ ok block
+    pub read : loadedAt t l bs b at least ≡ ok block
     pub docs-many : length (block .docs) ≡ docsIn t b
     pub freqs-many : length (block .freqs) ≡ docsIn t b
     pub docs-are : take (docsIn t b) docs ≡ block .docs
@@ -126,20 +126,20 @@ module _ (t : Term) (l : Layout) (bs : List ℕ) (b at least : ℕ) where
     pub reads : readingAt t l bs b at least ≡ nothing n
     pub numbered : 0 < n
 
-  pub landing-none : {n : ℕ} → landing t bs l 0 b at least b b ≡ refused n → Stops n
+  pub landing-none : {n : ℕ} → landing t bs l 0 (walking b at least) ≡ refused n → Stops n
   unfolding loadedAt
   landing-none {n} e =
-      let none : loadedAt t l bs b at least b ≡ refused n = loads-none _ _ _ (sym (landing-is t bs l 0 b at least b b) ∙ e) in
-      record { reads = reads-none t l bs b at least b none; numbered = rw none at (loadedAt-numbered t l bs b at least b) }
+      let none : loadedAt t l bs b at least ≡ refused n = loads-none _ _ _ (sym (landing-is t bs l 0 (walking b at least)) ∙ e) in
+      record { reads = reads-none t l bs b at least none; numbered = rw none at (loadedAt-numbered t l bs b at least) }
 
   module _ {h : Held} {docs freqs : List ℕ} where
-    pub block-held : at ≤ length bs → landing t bs l 0 b at least b b ≡ ok (cursorOf h docs freqs) → BlockHeld h docs freqs
+    pub block-held : at ≤ length bs → landing t bs l 0 (walking b at least) ≡ ok (cursorOf h docs freqs) → BlockHeld h docs freqs
     block-held start-inside e =
-        let found = andThen-ok _ _ (sym (landing-is t bs l 0 b at least b b) ∙ e) in
+        let found = andThen-ok _ _ (sym (landing-is t bs l 0 (walking b at least)) ∙ e) in
         let loads = andThen-ok _ _ (found .2) in
         let there = held-of (found .0) b (loads .0) {h = h} {docs = docs} {freqs = freqs} (ok-same (loads .2)) in
-        let many = load-many (found .0) (found-same t l bs b at least b (found .1) .0) (loads .1) in
-        let reads = loadedAt-found t l bs b at least b (found .1) ∙ loads .1 in
+        let many = load-many (found .0) (found-same t l bs b at least (found .1) .0) (loads .1) in
+        let reads = loadedAt-found t l bs b at least (found .1) ∙ loads .1 in
         record {
           block = loads .0;
           read = reads;
@@ -150,8 +150,8 @@ module _ (t : Term) (l : Layout) (bs : List ℕ) (b at least : ℕ) where
           docs-room = ap (λ (xs : List ℕ). length xs) (there .docs-are) ∙ (padded-room _ TERMINATED _ (many .docs-many) (docs-in-most t b));
           freqs-room = ap (λ (xs : List ℕ). length xs) (there .freqs-are) ∙ (padded-room _ 1 _ (many .freqs-many) (docs-in-most t b));
           next = λ some.
-              let is = found-entry t l bs b at least b (found .1) some in
-              let fits = entryFits-true _ _ _ (entryBlock-read _ _ _ _ _ (entry-same t l bs b at least b some ∙ reads) .fits) in
+              let is = found-entry t l bs b at least (found .1) some in
+              let fits = entryFits-true _ _ _ (entryBlock-read _ _ _ _ _ (entry-same t l bs b at least some ∙ reads) .fits) in
               record {
                 next-is = there .next-is ∙ rw is;
                 last-is = there .last-is ∙ rw is;
@@ -163,10 +163,10 @@ module _ (t : Term) (l : Layout) (bs : List ℕ) (b at least : ℕ) where
 
     module _ (k : BlockHeld h docs freqs) where
       pub reads-on : b < fullBlocks t → readingAt t l bs b at least ≡ (before (ok (k .block)) λ _. readingAt t l bs (b + 1) (h .next) (h .«last_doc» + 1))
-      reads-on some = rw (readingAt-entry t l bs b at least b some, k .read, k .next some .next-is, k .next some .last-is)
+      reads-on some = rw (readingAt-entry t l bs b at least some, k .read, k .next some .next-is, k .next some .last-is)
 
       pub reads-last : fullBlocks t ≤ b → readingAt t l bs b at least ≡ (before (ok (k .block)) λ _. nothing 0)
-      reads-last past = rw (readingAt-tail t l bs b at least b past, k .read)
+      reads-last past = rw (readingAt-tail t l bs b at least past, k .read)
 
       -- whatever is read behind it
       pub reads-first : (rest : Reading) × (readingAt t l bs b at least ≡ (before (ok (k .block)) λ _. rest))

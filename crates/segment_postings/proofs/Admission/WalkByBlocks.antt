@@ -21,8 +21,10 @@ use Rattle.format.proofs.Outcome.{ok-same, andThen-ok}
 use Rattle.format.proofs.Sound.{layout-inside, whole-count}
 use Rattle.segment_postings.specs.declared.Answer.the-variants.{At}
 use Rattle.segment_postings.specs.declared.SegmentPostings.{SegmentPostings}
-use Rattle.segment_postings.specs.Cursor.{holding, landing, inBounds, answerAt, position, atPlace, leastAfter, stepping}
-use Rattle.segment_postings.specs.Calls.{cursorOf, heldOf, FindsFrom}
+use Rattle.segment_postings.specs.Landing.{holding, landing}
+use Rattle.segment_postings.specs.Cursor.{inBounds, answerAt, position, atPlace, leastAfter, stepping}
+use Rattle.segment_postings.specs.Calls.{cursorOf, heldOf}
+use Rattle.segment_postings.specs.Private.{FindsFrom}
 use Rattle.segment_postings.specs.Passed.{docsIn}
 use Rattle.segment_postings.proofs.Admission.LandingReads.{BlockHeld, block-held, docs-in-full, docs-in-tail, reads-on, reads-last}
 use Rattle.segment_postings.proofs.core.Question16.{in-bounds}
@@ -30,7 +32,7 @@ use Rattle.segment_postings.proofs.find.FoundBlock.{found-from, found-t
 use Rattle.segment_postings.proofs.Simulation.HoldsBlock.{getD-there}
 use Rattle.segment_postings.proofs.Laws.LandingParts.{starts-behind, leaving-laid, stepping-ended, stepping-within, stepping-leaves}
 use Rattle.segment_postings.proofs.Laws.CursorTurns.{landing-is, answerAt-is}
-use Rattle.segment_postings.proofs.Admission.WalkReads.{readingAt, found-same, reading-whole}
+use Rattle.segment_postings.proofs.Admission.WalkReads.{walking, walking-from, readingAt, found-same, reading-whole}
 
 -- ---- blocks in a row
 
@@ -112,15 +114,15 @@ module _ (t : Term) (bs : List ℕ) (l : Layout) (laid : layout t bs ≡ ok l) w
       }
 
   pub landing-on : {b at least : ℕ} {front : List Block} {d : SegmentPostings} → BlocksPassed b at least front
-      → landing t bs l 0 b at least b b ≡ ok d → OnBlock b d
+      → landing t bs l 0 (walking b at least) ≡ ok d → OnBlock b d
   unfolding holding cursorOf heldOf
   landing-on {b} {at} {least} {front} {d} k e =
-      let found = andThen-ok _ _ (sym (landing-is t bs l 0 b at least b b) ∙ e) in
+      let found = andThen-ok _ _ (sym (landing-is t bs l 0 (walking b at least)) ∙ e) in
       let loads = andThen-ok _ _ (found .2) in
       let same : holding (found .0) b (loads .0) ≡ d = ok-same (loads .2) in
-      let from : FindsFrom t l bs b at b = record { laid-out = laid; block-most = k .block-most; inside = k .inside; entries-most = omega arith } in
-      let there = found-there t l bs 0 b at least b from (found .1) in
-      let here = found-same t l bs b at least b (found .1) .0 in
+      let from : FindsFrom t l bs (walking b at least) = walking-from t l bs laid (k .block-most) (k .inside) in
+      let there = found-there t l bs 0 (walking b at least) from (found .1) in
+      let here = found-same t l bs b at least (found .1) .0 in
       record {
         at = at;
         least = least;
@@ -134,7 +136,7 @@ module _ (t : Term) (bs : List ℕ) (l : Layout) (laid : layout t bs ≡ ok l) w
         entries-are = omega (
           arith,
           ap (λ (c : SegmentPostings). c .entries) same,
-          found-from t l bs 0 b at least b from (found .1) .entries-read,
+          found-from t l bs 0 (walking b at least) from (found .1) .entries-read,
           k .block-most,
         );
       }
@@ -252,7 +254,7 @@ module _ (t : Term) (bs : List ℕ) (l : Layout) (laid : layout t bs ≡ ok l) w
 
     -- the last place of a full block
     pub step-leaves : b < fullBlocks t
-        → stepping (atPlace d 127) bs t ≡ landing t bs l 0 (b + 1) (d .next) (d .«last_doc» + 1) (b + 1) (b + 1)
+        → stepping (atPlace d 127) bs t ≡ landing t bs l 0 (walking (b + 1) (d .next) (d .«last_doc» + 1))
     unfolding atPlace leastAfter heldOf
     step-leaves some =
         let in-it : 128 * b + 127 < t .count = omega (arith, whole-count t) in

@@ -21,19 +21,16 @@ use Rattle.format.proofs.Sound.{layout-numbered, whole-count, tail-short}
 use Rattle.segment_postings.specs.declared.Answer.the-variants.{At, Refused}
 use Rattle.segment_postings.specs.declared.Moved.{Moved}
 use Rattle.segment_postings.specs.declared.SegmentPostings.{SegmentPostings}
-use Rattle.segment_postings.specs.Cursor.{landing, answerAt, moved, blank, opening, opened, atPlace, stepping, advanced}
+use Rattle.segment_postings.specs.Landing.{firstStart, landing}
+use Rattle.segment_postings.specs.Cursor.{answerAt, moved, blank, opening, opened, atPlace, stepping, advanced}
 use Rattle.segment_postings.proofs.Admission.LandingReads.{landing-none}
 use Rattle.segment_postings.proofs.Laws.CursorTurns.{moved-ok, opening-is, opened-is, advanced-is}
 use Rattle.segment_postings.specs.Called.{called, callsFrom, calls}
+use Rattle.segment_postings.specs.Admission.{walkAt}
 use Rattle.segment_postings.proofs.Simulation.CallsSimulate.{callsFrom-none, callsFrom-more, calls-is, moved-refused}
-use Rattle.segment_postings.proofs.Admission.WalkReads.{reading-whole}
+use Rattle.segment_postings.proofs.Admission.WalkReads.{walking, reading-whole}
 use Rattle.segment_postings.proofs.Admission.WalkByBlocks.{OnBlock, passed-none, landing-on, position-there, place-there, tail-ends, answer-here, answer-end}
 use Rattle.segment_postings.proofs.Admission.WalkByBlocks.{step-ends, step-goes, step-leaves, passed-on, passed-stops}
-
--- opening and then k steps: what the last of these calls answers, and the cursor that it leaves
-unfoldable pub walkAt : List ℕ → Term → ℕ → Moved
-walkAt bs t zero = opened bs t
-walkAt bs t (suc k) = advanced (walkAt bs t k .cursor) bs t
 
 module _ (bs : List ℕ) (t : Term) where
   pub walkAt-first : walkAt bs t zero ≡ moved t blank (opening bs t)
@@ -76,7 +73,7 @@ module _ (bs : List ℕ) (t : Term) where
   unopened {n} e = go (layout t bs) refl (layout-numbered t bs) (sym (opening-is bs t) ∙ e)
     where
       go : (o : Outcome Layout) → layout t bs ≡ o → Numbered o
-          → andThen o (λ l. landing t bs l 0 0 (l .postings) 0 0 0) ≡ refused n → (reading t bs ≡ nothing n) × (0 < n)
+          → andThen o (λ l. landing t bs l 0 (firstStart l)) ≡ refused n → (reading t bs ≡ nothing n) × (0 < n)
       go (ok l) laid k h =
           let stops = landing-none t l bs 0 (l .postings) 0 h in
           (reading-whole t l bs laid ∙ stops .reads, stops .numbered)
@@ -128,7 +125,7 @@ module _ (bs : List ℕ) (t : Term) where
   unfolding andThen
   stands-first {c} e = go (layout t bs) refl (sym (opening-is bs t) ∙ e)
     where
-      go : (o : Outcome Layout) → layout t bs ≡ o → andThen o (λ l. landing t bs l 0 0 (l .postings) 0 0 0) ≡ ok c → Stands 0
+      go : (o : Outcome Layout) → layout t bs ≡ o → andThen o (λ l. landing t bs l 0 (firstStart l)) ≡ ok c → Stands 0
       go (ok l) laid h =
           landed-stands 0 laid (landing-on t bs l laid (passed-none t bs l laid) h) (omega arith) (walkAt-first ∙ rw (e, moved-ok))
       go (refused n) laid h = absurd (refused≢ok h)
@@ -177,13 +174,13 @@ module _ (bs : List ℕ) (t : Term) where
 
     -- to the block behind, which is read or refused
     leaves : k < t .count → s .place ≡ 127 → Comes (suc k)
-    leaves h last = go (landing t bs (s .l) 0 (s .block + 1) (s .first .next) (s .first .«last_doc» + 1) (s .block + 1) (s .block + 1)) refl
+    leaves h last = go (landing t bs (s .l) 0 (walking (s .block + 1) (s .first .next) (s .first .«last_doc» + 1))) refl
       where
         some : s .block < fullBlocks t
         some = omega (arith, s .there, whole-count t, tail-short t)
 
         go : (o : Outcome SegmentPostings)
-            → landing t bs (s .l) 0 (s .block + 1) (s .first .next) (s .first .«last_doc» + 1) (s .block + 1) (s .block + 1) ≡ o
+            → landing t bs (s .l) 0 (walking (s .block + 1) (s .first .next) (s .first .«last_doc» + 1)) ≡ o
             → Comes (suc k)
         go (ok d) e =
             let comes : stepping here bs t ≡ ok d = rw last (step-leaves t bs (s .l) (s .laid) on some ∙ e) in

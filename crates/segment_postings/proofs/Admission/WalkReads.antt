@@ -24,18 +24,26 @@ use Rattle.format.specs.Reading.{Block, Reading, nothing, before, fullBlock, en
 use Rattle.format.proofs.Outcome.{refused≢ok, ok-same, Numbered}
 use Rattle.format.proofs.SoundBlock.{entryBlock-numbered, tailBlock-numbered}
 use Rattle.format.proofs.Opened.{entryBlock-is, readFrom-zero, readFrom-suc, readAll-ok, reading-is}
-use Rattle.segment_postings.specs.declared.Found.{Found}
+use Rattle.segment_postings.specs.declared.find.Found.{Found}
+use Rattle.segment_postings.specs.declared.find.Start.{Start}
 use Rattle.segment_postings.specs.declared.load.Taken.{Taken}
 use Rattle.segment_postings.specs.Taken.{askedDocs, askedFreqs, asked, ValuesTaken}
-use Rattle.segment_postings.specs.Cursor.{tailInfo, findBlock, loadBlock}
+use Rattle.segment_postings.specs.Private.{FindsFrom}
+use Rattle.segment_postings.specs.Landing.{tailInfo, findBlock, loadBlock}
 use Rattle.segment_postings.proofs.find.FoundBlock.{entryOf, find-broken, find-here, find-end}
 use Rattle.segment_postings.proofs.load.BlockQuestions.{load-full, load-tail}
 
+-- where a walk by steps goes on, at block b: it has read as many entries and unpacked as many blocks as it has passed
+abbrev pub walking : ℕ → ℕ → ℕ → Start
+walking b at least = record { block = b; at = at; least = least; entries = b; unpacked = b }
+
 module _ (t : Term) (l : Layout) (bs : List ℕ) where
+  pub walking-from : {b at least : ℕ} → layout t bs ≡ ok l → b ≤ fullBlocks t → at ≤ length bs → FindsFrom t l bs (walking b at least)
+  walking-from laid most inside = record { laid-out = laid; block-most = most; inside = inside; entries-most = omega arith }
+
   -- block b, found and unpacked
-  unfoldable pub loadedAt : ℕ → ℕ → ℕ → ℕ → Outcome Block
-  loadedAt b at least entries =
-      andThen (findBlock (l .option) (skipBytes l bs) bs 0 (fullBlocks t - b) b at least entries) (loadBlock t l bs)
+  unfoldable pub loadedAt : ℕ → ℕ → ℕ → Outcome Block
+  loadedAt b at least = andThen (findBlock (l .option) (skipBytes l bs) bs 0 (fullBlocks t - b) (walking b at least)) (loadBlock t l bs)
 
   -- what is read from block b on, its bytes beginning at place `at`
   unfoldable pub readingAt : ℕ → ℕ → ℕ → Reading
@@ -43,36 +51,36 @@ module _ (t : Term) (l : Layout) (bs : List ℕ) where
       readFrom (l .option) (ltb 0 (t .requested)) (eqb (fullBlocks t) 0) (tailLength t) (fullBlocks t - b) least
       (drop (entrySize (l .option) * b) (skipBytes l bs)) (drop at bs)
 
-  module _ (b at least entries : ℕ) where
+  module _ (b at least : ℕ) where
     abbrev e : BlockInfo
     e = entryOf (l .option) (skipBytes l bs) b
 
     -- ---- a block with an entry
 
     module _ (some : b < fullBlocks t) where
-      loadedAt-broken : entryFits least (length bs - at) e ≡ false → loadedAt b at least entries ≡ refused entryBroken
+      loadedAt-broken : entryFits least (length bs - at) e ≡ false → loadedAt b at least ≡ refused entryBroken
       unfolding loadedAt andThen
-      loadedAt-broken t₅ = rw (find-broken (l .option) (skipBytes l bs) bs 0 (fullBlocks t) b at least entries e some refl t₅)
+      loadedAt-broken t₅ = rw (find-broken (l .option) (skipBytes l bs) bs 0 (fullBlocks t) (walking b at least) e some refl t₅)
 
       loadedAt-entry : entryFits least (length bs - at) e ≡ true
-          → loadedAt b at least entries ≡ fullBlock (and (hasFreq (l .option)) (ltb 0 (t .requested))) least e (drop at bs)
+          → loadedAt b at least ≡ fullBlock (and (hasFreq (l .option)) (ltb 0 (t .requested))) least e (drop at bs)
       unfolding loadedAt andThen
       loadedAt-entry t₅ =
-          rw (find-here (l .option) (skipBytes l bs) bs 0 (fullBlocks t) b at least entries e some refl t₅ zero-le)
-          (load-full t l bs (record { block = b; at = at; least = least; info = e; entries = entries + 1 }) some)
+          rw (find-here (l .option) (skipBytes l bs) bs 0 (fullBlocks t) (walking b at least) e some refl t₅ zero-le)
+          (load-full t l bs (record { block = b; at = at; least = least; info = e; entries = b + 1 }) some)
 
       pub entry-same : entryBlock (l .option) (ltb 0 (t .requested)) least (drop (entrySize (l .option) * b) (skipBytes l bs)) (drop at bs)
-          ≡ loadedAt b at least entries
+          ≡ loadedAt b at least
       unfolding ask
       entry-same = rw (entryBlock-is, length-drop) (go (entryFits least (length bs - at) e) refl)
         where
           go : (t₅ : Bool) → entryFits least (length bs - at) e ≡ t₅
-              → ask t₅ entryBroken (λ _. fullBlock (and (hasFreq (l .option)) (ltb 0 (t .requested))) least e (drop at bs)) ≡ loadedAt b at least entries
+              → ask t₅ entryBroken (λ _. fullBlock (and (hasFreq (l .option)) (ltb 0 (t .requested))) least e (drop at bs)) ≡ loadedAt b at least
           go true h = sym (loadedAt-entry h)
           go false h = sym (loadedAt-broken h)
 
       pub readingAt-entry : readingAt b at least
-          ≡ (before (loadedAt b at least entries) λ _. readingAt (b + 1) (at + blockSize e) (e .«last_doc» + 1))
+          ≡ (before (loadedAt b at least) λ _. readingAt (b + 1) (at + blockSize e) (e .«last_doc» + 1))
       unfolding readingAt
       readingAt-entry =
           let size : ℕ = entrySize (l .option) in
@@ -82,70 +90,70 @@ module _ (t : Term) (l : Layout) (bs : List ℕ) where
 
     -- ---- the tail
 
-    pub readingAt-tail : fullBlocks t ≤ b → readingAt b at least ≡ (before (loadedAt b at least entries) λ _. nothing 0)
+    pub readingAt-tail : fullBlocks t ≤ b → readingAt b at least ≡ (before (loadedAt b at least) λ _. nothing 0)
     unfolding readingAt loadedAt andThen
     readingAt-tail h =
         let none : fullBlocks t - b ≡ 0 = omega arith in
-        rw (find-end (l .option) (skipBytes l bs) bs 0 (fullBlocks t) b at least entries tailInfo h refl, none, readFrom-zero)
+        rw (find-end (l .option) (skipBytes l bs) bs 0 (fullBlocks t) (walking b at least) tailInfo h refl, none, readFrom-zero)
         (ap (λ (o : Outcome Block). before o (λ _. nothing 0))
-        (sym (load-tail t l bs (record { block = b; at = at; least = least; info = tailInfo; entries = entries }) h)))
+        (sym (load-tail t l bs (record { block = b; at = at; least = least; info = tailInfo; entries = b }) h)))
 
     -- ---- the first question that is answered no
 
-    pub reads-none : {n : ℕ} → loadedAt b at least entries ≡ refused n → readingAt b at least ≡ nothing n
+    pub reads-none : {n : ℕ} → loadedAt b at least ≡ refused n → readingAt b at least ≡ nothing n
     unfolding before
     reads-none h = elim (decLe (fullBlocks t) b) [
       | yes past ↦ rw (readingAt-tail past, h)
       | no some ↦ rw (readingAt-entry (omega arith), h)
     ]
 
-    pub reading-stops : {n : ℕ} → loadedAt b at least entries ≡ refused n → readingAt b at least .refusal ≡ n
+    pub reading-stops : {n : ℕ} → loadedAt b at least ≡ refused n → readingAt b at least .refusal ≡ n
     unfolding nothing
     reading-stops h = ap (λ (r : Reading). r .refusal) (reads-none h)
 
     -- its number is a question's
-    pub loadedAt-numbered : Numbered (loadedAt b at least entries)
+    pub loadedAt-numbered : Numbered (loadedAt b at least)
     unfolding loadedAt andThen
     loadedAt-numbered = elim (decLe (fullBlocks t) b) [
       | yes past ↦
-          let f : Found = record { block = b; at = at; least = least; info = tailInfo; entries = entries } in
-          rw (find-end (l .option) (skipBytes l bs) bs 0 (fullBlocks t) b at least entries tailInfo past refl, load-tail t l bs f past)
+          let f : Found = record { block = b; at = at; least = least; info = tailInfo; entries = b } in
+          rw (find-end (l .option) (skipBytes l bs) bs 0 (fullBlocks t) (walking b at least) tailInfo past refl, load-tail t l bs f past)
           (tailBlock-numbered _ _ _ _ _ _)
       | no some ↦ rw (← entry-same (omega arith)) (entryBlock-numbered _ _ _ _ _)
     ]
 
-    reading-goes-on : {block : Block} → b < fullBlocks t → loadedAt b at least entries ≡ ok block
+    reading-goes-on : {block : Block} → b < fullBlocks t → loadedAt b at least ≡ ok block
         → readingAt b at least .refusal ≡ readingAt (b + 1) (at + blockSize e) (e .«last_doc» + 1) .refusal
     unfolding before
     reading-goes-on some h = rw (readingAt-entry some, h)
 
-    reading-ends : {block : Block} → fullBlocks t ≤ b → loadedAt b at least entries ≡ ok block → readingAt b at least .refusal ≡ 0
+    reading-ends : {block : Block} → fullBlocks t ≤ b → loadedAt b at least ≡ ok block → readingAt b at least .refusal ≡ 0
     unfolding before nothing
     reading-ends past h = rw (readingAt-tail past, h)
 
     -- ---- the block that a search with target 0 comes to, if any
 
-    pub loadedAt-none : {n : ℕ} → findBlock (l .option) (skipBytes l bs) bs 0 (fullBlocks t - b) b at least entries ≡ refused n
-        → loadedAt b at least entries ≡ refused n
+    pub loadedAt-none : {n : ℕ} → findBlock (l .option) (skipBytes l bs) bs 0 (fullBlocks t - b) (walking b at least) ≡ refused n
+        → loadedAt b at least ≡ refused n
     unfolding loadedAt andThen
     loadedAt-none h = rw h
 
-    module _ {f : Found} (found : findBlock (l .option) (skipBytes l bs) bs 0 (fullBlocks t - b) b at least entries ≡ ok f) where
-      pub loadedAt-found : loadedAt b at least entries ≡ loadBlock t l bs f
+    module _ {f : Found} (found : findBlock (l .option) (skipBytes l bs) bs 0 (fullBlocks t - b) (walking b at least) ≡ ok f) where
+      pub loadedAt-found : loadedAt b at least ≡ loadBlock t l bs f
       unfolding loadedAt andThen
       loadedAt-found = rw found
 
-      pub found-entry : b < fullBlocks t → f ≡ record { block = b; at = at; least = least; info = e; entries = entries + 1 }
+      pub found-entry : b < fullBlocks t → f ≡ record { block = b; at = at; least = least; info = e; entries = b + 1 }
       found-entry some = go (entryFits least (length bs - at) e) refl
         where
           go : (t₅ : Bool) → entryFits least (length bs - at) e ≡ t₅
-              → f ≡ record { block = b; at = at; least = least; info = e; entries = entries + 1 }
-          go true h = ok-same (sym found ∙ find-here (l .option) (skipBytes l bs) bs 0 (fullBlocks t) b at least entries e some refl h zero-le)
+              → f ≡ record { block = b; at = at; least = least; info = e; entries = b + 1 }
+          go true h = ok-same (sym found ∙ find-here (l .option) (skipBytes l bs) bs 0 (fullBlocks t) (walking b at least) e some refl h zero-le)
           go false h =
-              absurd (refused≢ok (sym (find-broken (l .option) (skipBytes l bs) bs 0 (fullBlocks t) b at least entries e some refl h) ∙ found))
+              absurd (refused≢ok (sym (find-broken (l .option) (skipBytes l bs) bs 0 (fullBlocks t) (walking b at least) e some refl h) ∙ found))
 
-      found-tail : fullBlocks t ≤ b → f ≡ record { block = b; at = at; least = least; info = tailInfo; entries = entries }
-      found-tail past = ok-same (sym found ∙ find-end (l .option) (skipBytes l bs) bs 0 (fullBlocks t) b at least entries tailInfo past refl)
+      found-tail : fullBlocks t ≤ b → f ≡ record { block = b; at = at; least = least; info = tailInfo; entries = b }
+      found-tail past = ok-same (sym found ∙ find-end (l .option) (skipBytes l bs) bs 0 (fullBlocks t) (walking b at least) tailInfo past refl)
 
       pub found-same : (f .block ≡ b) × (f .at ≡ at) × (f .least ≡ least)
       found-same = go (decLe (fullBlocks t) b)
@@ -160,7 +168,7 @@ module _ (t : Term) (l : Layout) (bs : List ℕ) where
         pub full-within : k .full ≡ true → b < fullBlocks t
         full-within full = omega (arith, found-same, ltb-true (f .block) (fullBlocks t) (sym (taken .is-full) ∙ full))
 
-        here : loadedAt b at least entries ≡ asked k least docs freqs
+        here : loadedAt b at least ≡ asked k least docs freqs
         here = loadedAt-found ∙ (sym (taken .questions) ∙ ap (λ (n : ℕ). asked k n docs freqs) (found-same .2))
 
         pub stops-at-docs : {n : ℕ} → askedDocs k least docs ≡ refused n → readingAt b at least .refusal ≡ n
@@ -173,7 +181,7 @@ module _ (t : Term) (l : Layout) (bs : List ℕ) where
           stops-at-freqs h = reading-stops (here ∙ rw (docs-right, h))
 
           module _ {fs : List ℕ} (freqs-right : askedFreqs k freqs ≡ ok fs) where
-            right : loadedAt b at least entries ≡ ok (record { docs = ds; freqs = fs; last = k .«last_doc» })
+            right : loadedAt b at least ≡ ok (record { docs = ds; freqs = fs; last = k .«last_doc» })
             unfolding asked andThen
             right = here ∙ rw (docs-right, freqs-right)
 

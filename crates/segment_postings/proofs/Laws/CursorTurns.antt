@@ -17,25 +17,27 @@ use Rattle.format.specs.Layout.{layout, fullBlocks, tailLength, skipBytes}
 use Rattle.format.specs.Reading.{fullBlock, tailBlock}
 use Rattle.segment_postings.specs.declared.SegmentPostings.{SegmentPostings}
 use Rattle.segment_postings.specs.declared.Answer.the-variants.{At}
-use Rattle.segment_postings.specs.declared.Found.{Found}
-use Rattle.segment_postings.specs.Cursor.{tailInfo, findBlock, loadBlock, holding, landing, position, inBounds, answerAt}
-use Rattle.segment_postings.specs.Cursor.{moved, blank, opening, opened, atPlace, leastAfter, startsInside, leaving, stepping, advanced, placeOf, within, behind, seeking}
+use Rattle.segment_postings.specs.declared.find.Found.{Found}
+use Rattle.segment_postings.specs.declared.find.Start.{Start}
+use Rattle.segment_postings.specs.Landing.{tailInfo, firstStart, startAfter, findBlock, loadBlock, holding, landing}
+use Rattle.segment_postings.specs.Cursor.{position, inBounds, answerAt}
+use Rattle.segment_postings.specs.Cursor.{moved, blank, opening, opened, atPlace, startsInside, startBehind, leaving, stepping, advanced, placeOf, within, behind, seeking}
 
-pub findBlock-zero : (option : IndexRecordOption) (skips bs : List ℕ) (target b at least entries : ℕ)
-    → findBlock option skips bs target zero b at least entries
-    ≡ ok (record { block = b; at = at; least = least; info = tailInfo; entries = entries })
+pub findBlock-zero : (option : IndexRecordOption) (skips bs : List ℕ) (target : ℕ) (s : Start)
+    → findBlock option skips bs target zero s
+    ≡ ok (record { block = s .block; at = s .at; least = s .least; info = tailInfo; entries = s .entries })
 unfolding findBlock
-findBlock-zero option skips bs target b at least entries = refl
+findBlock-zero option skips bs target s = refl
 
-pub findBlock-suc : (option : IndexRecordOption) (skips bs : List ℕ) (target n b at least entries : ℕ)
-    → findBlock option skips bs target (suc n) b at least entries
-    ≡ (let e : BlockInfo = readEntry option (drop (entrySize option * b) skips) in
-    ask (entryFits least (length bs - at) e) entryBroken λ _.
+pub findBlock-suc : (option : IndexRecordOption) (skips bs : List ℕ) (target n : ℕ) (s : Start)
+    → findBlock option skips bs target (suc n) s
+    ≡ (let e : BlockInfo = readEntry option (drop (entrySize option * s .block) skips) in
+    ask (entryFits (s .least) (length bs - s .at) e) entryBroken λ _.
     choose (leb target (e .«last_doc»))
-    (λ _. ok (record { block = b; at = at; least = least; info = e; entries = entries + 1 }))
-    (λ _. findBlock option skips bs target n (b + 1) (at + blockSize e) (e .«last_doc» + 1) (entries + 1)))
+    (λ _. ok (record { block = s .block; at = s .at; least = s .least; info = e; entries = s .entries + 1 }))
+    (λ _. findBlock option skips bs target n (startAfter s e)))
 unfolding findBlock
-findBlock-suc option skips bs target n b at least entries = refl
+findBlock-suc option skips bs target n s = refl
 
 pub loadBlock-is : (t : Term) (l : Layout) (bs : List ℕ) (f : Found)
     → loadBlock t l bs f
@@ -45,13 +47,13 @@ pub loadBlock-is : (t : Term) (l : Layout) (bs : List ℕ) (f : Found)
 unfolding loadBlock
 loadBlock-is t l bs f = refl
 
-pub landing-is : (t : Term) (bs : List ℕ) (l : Layout) (target b at least entries unpacked : ℕ)
-    → landing t bs l target b at least entries unpacked
-    ≡ (andThen (findBlock (l .option) (skipBytes l bs) bs target (fullBlocks t - b) b at least entries) λ f.
+pub landing-is : (t : Term) (bs : List ℕ) (l : Layout) (target : ℕ) (s : Start)
+    → landing t bs l target s
+    ≡ (andThen (findBlock (l .option) (skipBytes l bs) bs target (fullBlocks t - s .block) s) λ f.
     andThen (loadBlock t l bs f) λ block.
-    ok (holding f unpacked block))
+    ok (holding f (s .unpacked) block))
 unfolding landing
-landing-is t bs l target b at least entries unpacked = refl
+landing-is t bs l target s = refl
 
 pub answerAt-is : (t : Term) (c : SegmentPostings)
     → answerAt t c
@@ -66,7 +68,7 @@ unfolding moved
 moved-ok t before c = refl
 
 pub opening-is : (bs : List ℕ) (t : Term)
-    → opening bs t ≡ andThen (layout t bs) λ l. landing t bs l 0 0 (l .postings) 0 0 0
+    → opening bs t ≡ andThen (layout t bs) λ l. landing t bs l 0 (firstStart l)
 unfolding opening
 opening-is bs t = refl
 
@@ -74,7 +76,7 @@ pub leaving-is : (c : SegmentPostings) (bs : List ℕ) (t : Term) (target : ℕ)
     → leaving c bs t target
     ≡ (andThen (layout t bs) λ l.
     ask (startsInside t l (c .block + 1) (c .next)) entryBroken λ _.
-    landing t bs l target (c .block + 1) (c .next) (leastAfter (c .«last_doc»)) (c .entries) (c .unpacked))
+    landing t bs l target (startBehind c))
 unfolding leaving
 leaving-is c bs t target = refl
 

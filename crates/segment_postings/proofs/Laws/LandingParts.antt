@@ -20,19 +20,22 @@ use Rattle.format.specs.Layout.{layout, fullBlocks, skipBytes}
 use Rattle.format.specs.Reading.{Block}
 use Rattle.format.proofs.Choice.{choose-elim}
 use Rattle.format.proofs.Outcome.{ok-same, andThen-ok}
-use Rattle.segment_postings.specs.declared.Found.{Found}
+use Rattle.segment_postings.specs.declared.find.Found.{Found}
+use Rattle.segment_postings.specs.declared.find.Start.{Start}
 use Rattle.segment_postings.specs.declared.Held.{Held}
 use Rattle.segment_postings.specs.declared.SegmentPostings.{SegmentPostings}
-use Rattle.segment_postings.specs.declared.Laid.the-variants as laid-as
-use Rattle.segment_postings.specs.declared.Loaded.{Loaded}
-use Rattle.segment_postings.specs.declared.Loaded.the-variants as loaded-as
-use Rattle.segment_postings.specs.declared.Search.the-variants as search-as
+use Rattle.segment_postings.specs.declared.layout.Laid.the-variants as laid-as
+use Rattle.segment_postings.specs.declared.load.Loaded.{Loaded}
+use Rattle.segment_postings.specs.declared.load.Loaded.the-variants as loaded-as
+use Rattle.segment_postings.specs.declared.find.Search.the-variants as search-as
 use Rattle.segment_postings.specs.declared.Answer.{Answer}
 use Rattle.segment_postings.specs.declared.Answer.the-variants as answer-as
 use Rattle.segment_postings.specs.declared.Reached.{Reached}
 use Rattle.segment_postings.specs.declared.Reached.the-variants as reached-as
-use Rattle.segment_postings.specs.Cursor.{findBlock, loadBlock, holding, landing, position, inBounds, opening, atPlace, leastAfter, startsInside, leaving, stepping, answerAt, answering, moved}
-use Rattle.segment_postings.specs.Calls.{laid, searched, counted, cursorOf, heldOf, reached, loaded, FindsFrom, BlockLoaded, Reaches}
+use Rattle.segment_postings.specs.Landing.{firstStart, findBlock, loadBlock, holding, landing}
+use Rattle.segment_postings.specs.Cursor.{position, inBounds, opening, atPlace, leastAfter, startsInside, leaving, stepping, answerAt, answering, moved}
+use Rattle.segment_postings.specs.Calls.{cursorOf, heldOf, reached, Reaches}
+use Rattle.segment_postings.specs.Private.{laid, searched, counted, loaded, FindsFrom, BlockLoaded}
 use Rattle.segment_postings.proofs.core.Question16.{Bounded, bounded}
 use Rattle.segment_postings.proofs.layout.SplitParts.{laid-out}
 use Rattle.segment_postings.proofs.Laws.CursorTurns.{landing-is, opening-is}
@@ -112,14 +115,14 @@ pub none-reached : {o : Outcome SegmentPostings} {n : ℕ} (docs freqs : List �
 unfolding reached orBefore
 none-reached docs freqs e = reaches-as e (record { answer = refl; docs-after = refl; freqs-after = refl })
 
-module _ (t : Term) (bs : List ℕ) (l : Layout) (target b at least entries unpacked : ℕ) where
-  pub landing-found : {f : Found} → findBlock (l .option) (skipBytes l bs) bs target (fullBlocks t - b) b at least entries ≡ ok f
-      → landing t bs l target b at least entries unpacked ≡ loaded t l bs f unpacked
+module _ (t : Term) (bs : List ℕ) (l : Layout) (target : ℕ) (s : Start) where
+  pub landing-found : {f : Found} → findBlock (l .option) (skipBytes l bs) bs target (fullBlocks t - s .block) s ≡ ok f
+      → landing t bs l target s ≡ loaded t l bs f (s .unpacked)
   unfolding landing loaded andThen
   landing-found e = rw e
 
-  pub landing-refused : {n : ℕ} → findBlock (l .option) (skipBytes l bs) bs target (fullBlocks t - b) b at least entries ≡ refused n
-      → landing t bs l target b at least entries unpacked ≡ refused n
+  pub landing-refused : {n : ℕ} → findBlock (l .option) (skipBytes l bs) bs target (fullBlocks t - s .block) s ≡ refused n
+      → landing t bs l target s ≡ refused n
   unfolding landing andThen
   landing-refused e = rw e
 
@@ -148,7 +151,7 @@ starts-behind t l b at h = elim (decLe (fullBlocks t) b) [
 ]
 
 module _ (bs : List ℕ) (t : Term) where
-  pub opening-laid : {l : Layout} → layout t bs ≡ ok l → opening bs t ≡ landing t bs l 0 0 (l .postings) 0 0 0
+  pub opening-laid : {l : Layout} → layout t bs ≡ ok l → opening bs t ≡ landing t bs l 0 (firstStart l)
   unfolding opening andThen
   opening-laid e = rw e
 
@@ -156,13 +159,14 @@ module _ (bs : List ℕ) (t : Term) where
   unfolding opening andThen
   opening-refused e = rw e
 
-  pub opens-from : {l : Layout} → layout t bs ≡ ok l → FindsFrom t l bs 0 (l .postings) 0
+  pub opens-from : {l : Layout} → layout t bs ≡ ok l → FindsFrom t l bs (firstStart l)
   opens-from e = record { laid-out = e; block-most = omega arith; inside = laid-out t bs e .inside; entries-most = omega arith }
 
 module _ (c : SegmentPostings) (bs : List ℕ) (t : Term) where
   pub leaving-laid : (target : ℕ) {l : Layout} {least : ℕ} → layout t bs ≡ ok l → startsInside t l (c .block + 1) (c .next) ≡ true
       → least ≡ leastAfter (c .«last_doc»)
-      → leaving c bs t target ≡ landing t bs l target (c .block + 1) (c .next) least (c .entries) (c .unpacked)
+      → leaving c bs t target
+      ≡ landing t bs l target (record { block = c .block + 1; at = c .next; least = least; entries = c .entries; unpacked = c .unpacked })
   unfolding leaving andThen ask
   leaving-laid target e inside least = rw (e, inside, least)
 
@@ -175,10 +179,10 @@ module _ (c : SegmentPostings) (bs : List ℕ) (t : Term) where
   unfolding leaving andThen
   leaving-refused target e = rw e
 
-  pub leaves-from : {l : Layout} → Bounded t bs c → c .block < t .count / 128 → layout t bs ≡ ok l
-      → FindsFrom t l bs (c .block + 1) (c .next) (c .entries)
+  pub leaves-from : {l : Layout} (least : ℕ) → Bounded t bs c → c .block < t .count / 128 → layout t bs ≡ ok l
+      → FindsFrom t l bs (record { block = c .block + 1; at = c .next; least = least; entries = c .entries; unpacked = c .unpacked })
   unfolding fullBlocks
-  leaves-from b full e = record { laid-out = e; block-most = omega arith; inside = b .next-inside; entries-most = b .entries-behind }
+  leaves-from least b full e = record { laid-out = e; block-most = omega arith; inside = b .next-inside; entries-most = b .entries-behind }
 
   -- ---- a step
 
@@ -274,13 +278,13 @@ unfolding moved
 moved-nowhere t before k e = rw (reached-nowhere k e)
 
 -- a landing is at its block's first place
-pub landing-first : (t : Term) (bs : List ℕ) (l : Layout) (target b at least entries unpacked : ℕ) {c : SegmentPostings}
-    → landing t bs l target b at least entries unpacked ≡ ok c → c .place ≡ 0
+pub landing-first : (t : Term) (bs : List ℕ) (l : Layout) (target : ℕ) (s : Start) {c : SegmentPostings}
+    → landing t bs l target s ≡ ok c → c .place ≡ 0
 unfolding holding
-landing-first t bs l target b at least entries unpacked e =
-    let found = andThen-ok _ _ (sym (landing-is t bs l target b at least entries unpacked) ∙ e) in
+landing-first t bs l target s e =
+    let found = andThen-ok _ _ (sym (landing-is t bs l target s) ∙ e) in
     let loads = andThen-ok _ _ (found .2) in
     ap (λ (c : SegmentPostings). c .place) (sym (ok-same (loads .2)))
 
 pub opening-near : (bs : List ℕ) (t : Term) {c : SegmentPostings} → opening bs t ≡ ok c → c .place < 128
-opening-near bs t e = omega (arith, landing-first _ _ _ _ _ _ _ _ _ (andThen-ok _ _ (sym (opening-is bs t) ∙ e) .2))
+opening-near bs t e = omega (arith, landing-first _ _ _ _ _ (andThen-ok _ _ (sym (opening-is bs t) ∙ e) .2))

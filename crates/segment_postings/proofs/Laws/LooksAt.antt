@@ -6,7 +6,7 @@
 use mathlib.Core.Bool.{Bool, true, false, _&&_ as and}
 use mathlib.Core.List.{List}
 use mathlib.Core.Path.{_≡_, refl, sym, _∙_}
-use Prim.Native.Nat.{ℕ, zero, suc, _+_, _-_, _/_, _≤_, _<_, zero-le}
+use Prim.Native.Nat.{ℕ, zero, suc, _+_, _-_, _*_, _/_, _≤_, _<_, zero-le}
 use native.Mathlib.Nat.{mul-zero, add-sub-cancel-left}
 use native.Mathlib.Omega.{arith}
 use borrow.Author.Tests.{le-leb, lt-ltb}
@@ -16,38 +16,19 @@ use Rattle.format.specs.declared.IndexRecordOption.{IndexRecordOption}
 use Rattle.format.specs.declared.Layout.{Layout}
 use Rattle.format.specs.declared.Term.{Term}
 use Rattle.format.specs.Basics.{Outcome, ok, refused, andThen, choose}
-use Rattle.format.specs.SkipEntry.{hasFreq, readEntry, blockSize}
+use Rattle.format.specs.SkipEntry.{hasFreq, entrySize, readEntry, blockSize}
 use Rattle.format.specs.Layout.{layout, fullBlocks, tailLength, skipBytes}
 use Rattle.format.specs.Reading.{fullBlock, tailBlock}
 use Rattle.format.proofs.Outcome.{ok-same, ask-ok}
 use Rattle.format.proofs.LooksAt.{same-fewer, same-behind, same-full, same-layout, same-skips}
-use Rattle.segment_postings.specs.declared.Found.{Found}
+use Rattle.segment_postings.specs.declared.find.Found.{Found}
+use Rattle.segment_postings.specs.declared.find.Start.{Start}
 use Rattle.segment_postings.specs.declared.SegmentPostings.{SegmentPostings}
-use Rattle.segment_postings.specs.Cursor.{findBlock, loadBlock, landing, inBounds, leastAfter, opened, leaving, advanced, sought}
-use Rattle.segment_postings.proofs.Laws.CursorTurns.{findBlock-zero, findBlock-suc, loadBlock-is, landing-is, opening-is, opened-is}
+use Rattle.segment_postings.specs.LooksAt.{SameFront, bytesOf, leadsTo, SameThere, firstEnd}
+use Rattle.segment_postings.specs.Landing.{firstStart, startAfter, findBlock, loadBlock, landing}
+use Rattle.segment_postings.specs.Cursor.{inBounds, startBehind, opening, opened, leaving, advanced, sought}
+use Rattle.segment_postings.proofs.Laws.CursorTurns.{findBlock-zero, findBlock-suc, loadBlock-is, landing-is, opened-is}
 use Rattle.segment_postings.proofs.Laws.CursorTurns.{leaving-is, stepping-is, advanced-is, behind-is, seeking-is}
-
--- two images of one length that are the same before the posting bytes: skip length and entries
-pub record SameFront (l : Layout) (bs bs′ : List ℕ) : Type 0 where
-  pub long : length bs ≡ length bs′
-  pub front : take (l .postings) bs ≡ take (l .postings) bs′
-
--- the bytes of the block found: of a full block those that its entry gives it, of the tail all that are left
-abbrev pub bytesOf : Term → Found → List ℕ → List ℕ
-bytesOf t f bs = choose (ltb (f .block) (fullBlocks t)) (λ _. take (blockSize (f .info)) (drop (f .at) bs)) (λ _. drop (f .at) bs)
-
--- the block that the entries lead a cursor to that leaves its own
-abbrev pub leadsTo : SegmentPostings → List ℕ → Term → Layout → ℕ → Outcome Found
-leadsTo c bs t l target =
-    findBlock (l .option) (skipBytes l bs) bs target (fullBlocks t - (c .block + 1)) (c .block + 1) (c .next) (leastAfter (c .«last_doc»)) (c .entries)
-
--- two images that are the same in that block, if the entries lead to one
-abbrev pub SameThere : SegmentPostings → Term → Layout → List ℕ → List ℕ → ℕ → Type 0
-SameThere c t l bs bs′ target = (f : Found) → leadsTo c bs t l target ≡ ok f → bytesOf t f bs ≡ bytesOf t f bs′
-
--- where the first full block ends, by entry 0 alone
-abbrev pub firstEnd : Layout → List ℕ → ℕ
-firstEnd l bs = l .postings + blockSize (readEntry (l .option) (skipBytes l bs))
 
 -- ---- a landing
 
@@ -56,11 +37,12 @@ unfolding andThen
 then-same (ok a) go go′ h = h a refl
 then-same (refused n) go go′ h = refl
 
-same-find : (option : IndexRecordOption) (skips bs bs′ : List ℕ) (target n b at least entries : ℕ) → length bs ≡ length bs′
-    → findBlock option skips bs target n b at least entries ≡ findBlock option skips bs′ target n b at least entries
-same-find option skips bs bs′ target zero b at least entries long = rw (findBlock-zero, findBlock-zero option skips bs′)
-same-find option skips bs bs′ target (suc n) b at least entries long =
-    rw (findBlock-suc, findBlock-suc option skips bs′, long, same-find option skips bs bs′ target n (b + 1) _ _ (entries + 1) long)
+same-find : (option : IndexRecordOption) (skips bs bs′ : List ℕ) (target n : ℕ) (s : Start) → length bs ≡ length bs′
+    → findBlock option skips bs target n s ≡ findBlock option skips bs′ target n s
+same-find option skips bs bs′ target zero s long = findBlock-zero option skips bs target s ∙ sym (findBlock-zero option skips bs′ target s)
+same-find option skips bs bs′ target (suc n) s long =
+    rw (findBlock-suc option skips bs target n s, findBlock-suc option skips bs′ target n s, long)
+    (rw (same-find option skips bs bs′ target n (startAfter s (readEntry option (drop (entrySize option * s .block) skips))) long))
 
 module _ (t : Term) (l : Layout) (bs bs′ : List ℕ) where
   read-same : (full : Bool) (f : Found)
@@ -79,13 +61,13 @@ module _ (t : Term) (l : Layout) (bs bs′ : List ℕ) where
   same-load : (f : Found) → bytesOf t f bs ≡ bytesOf t f bs′ → loadBlock t l bs f ≡ loadBlock t l bs′ f
   same-load f same = loadBlock-is t l bs f ∙ read-same _ f same ∙ sym (loadBlock-is t l bs′ f)
 
-  pub landing-looks-at : (target b at least entries unpacked : ℕ) → SameFront l bs bs′
-      → ((f : Found) → findBlock (l .option) (skipBytes l bs) bs target (fullBlocks t - b) b at least entries ≡ ok f
+  pub landing-looks-at : (target : ℕ) (from : Start) → SameFront l bs bs′
+      → ((f : Found) → findBlock (l .option) (skipBytes l bs) bs target (fullBlocks t - from .block) from ≡ ok f
       → bytesOf t f bs ≡ bytesOf t f bs′)
-      → landing t bs l target b at least entries unpacked ≡ landing t bs′ l target b at least entries unpacked
-  landing-looks-at target b at least entries unpacked s h =
-      let found = same-find (l .option) (skipBytes l bs) bs bs′ target (fullBlocks t - b) b at least entries (s .long) in
-      rw (landing-is, landing-is t bs′, ← same-skips l bs bs′ (s .front), ← found)
+      → landing t bs l target from ≡ landing t bs′ l target from
+  landing-looks-at target from s h =
+      let found = same-find (l .option) (skipBytes l bs) bs bs′ target (fullBlocks t - from .block) from (s .long) in
+      rw (landing-is t bs l target from, landing-is t bs′ l target from, ← same-skips l bs bs′ (s .front), ← found)
       (then-same _ _ _ (λ f e. rw (same-load f (h f e))))
 
 -- ---- the calls
@@ -100,7 +82,7 @@ module _ (c : SegmentPostings) (t : Term) (l : Layout) (bs bs′ : List ℕ) (la
   unfolding andThen
   lands-on-one target there =
       rw (leaving-is, leaving-is c bs′, laid, same-layout t l bs bs′ (s .long) (s .front) laid)
-      (rw (landing-looks-at t l bs bs′ target _ _ _ _ (c .unpacked) s there))
+      (rw (landing-looks-at t l bs bs′ target (startBehind c) s there))
 
   -- .. by a step, to the first block behind it whose last id is at least 0: the next
   pub step-lands-on-one : SameThere c t l bs bs′ 0 → advanced c bs t ≡ advanced c bs′ t
@@ -117,17 +99,18 @@ module _ (c : SegmentPostings) (t : Term) (l : Layout) (bs bs′ : List ℕ) (la
 -- ---- opening
 
 -- the first search ends at entry 0, if that passes question 5
-found-first : (option : IndexRecordOption) (skips bs : List ℕ) (n at : ℕ) {f : Found} → findBlock option skips bs 0 (suc n) 0 at 0 0 ≡ ok f
+found-first : (option : IndexRecordOption) (skips bs : List ℕ) (n at : ℕ) {f : Found}
+    → findBlock option skips bs 0 (suc n) (record { block = 0; at = at; least = 0; entries = 0; unpacked = 0 }) ≡ ok f
     → record { block = 0; at = at; least = 0; info = readEntry option skips; entries = 1 } ≡ f
 unfolding choose
 found-first option skips bs n at e =
-    let asked = ask-ok _ _ _ (rw mul-zero at (sym (findBlock-suc option skips bs 0 n 0 at 0 0) ∙ e)) in
+    let asked = ask-ok _ _ _ (rw mul-zero at (sym (findBlock-suc option skips bs 0 n _) ∙ e)) in
     ok-same (rw (le-leb 0 (readEntry option skips .«last_doc») zero-le) at (asked .1))
 
 -- where there is a full block opening looks at the first alone: nothing behind it is refused, or changes the answer
 module _ (t : Term) (l : Layout) (bs bs′ : List ℕ) (laid : layout t bs ≡ ok l) (full : 128 ≤ t .count) (long : length bs ≡ length bs′) where
   same-first : take (firstEnd l bs) bs ≡ take (firstEnd l bs) bs′ → (f : Found)
-      → findBlock (l .option) (skipBytes l bs) bs 0 (fullBlocks t - 0) 0 (l .postings) 0 0 ≡ ok f → bytesOf t f bs ≡ bytesOf t f bs′
+      → findBlock (l .option) (skipBytes l bs) bs 0 (fullBlocks t - 0) (firstStart l) ≡ ok f → bytesOf t f bs ≡ bytesOf t f bs′
   unfolding choose fullBlocks
   same-first same f e =
       let some : 0 < t .count / 128 = omega arith in
@@ -137,8 +120,8 @@ module _ (t : Term) (l : Layout) (bs bs′ : List ℕ) (laid : layout t bs ≡ o
       (rw add-sub-cancel-left at (same-behind (firstEnd l bs) bs bs′ same (l .postings)))
 
   pub opens-by-the-first : take (firstEnd l bs) bs ≡ take (firstEnd l bs) bs′ → opened bs t ≡ opened bs′ t
-  unfolding andThen
+  unfolding andThen opening
   opens-by-the-first same =
       let s : SameFront l bs bs′ = record { long = long; front = same-fewer (firstEnd l bs) bs bs′ same (l .postings) (omega arith) } in
-      rw (opened-is, opened-is bs′, opening-is, opening-is bs′, laid, same-layout t l bs bs′ long (s .front) laid)
-      (rw (landing-looks-at t l bs bs′ 0 0 (l .postings) 0 0 0 s (same-first same)))
+      rw (opened-is bs t, opened-is bs′ t, laid, same-layout t l bs bs′ long (s .front) laid)
+      (rw (landing-looks-at t l bs bs′ 0 (firstStart l) s (same-first same)))

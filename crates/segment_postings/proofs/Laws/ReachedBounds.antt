@@ -34,7 +34,7 @@ module _ (c : SegmentPostings) (bs : List ℕ) (t : Term) where
   leaving-near : {d : SegmentPostings} → c .block < fullBlocks t → leaving c bs t 0 ≡ ok d → Near t d
   leaving-near full e =
       let laid = andThen-ok _ _ (sym (leaving-is c bs t 0) ∙ e) in
-      let first = landing-first _ _ _ _ _ _ _ _ _ (ask-ok _ _ _ (laid .2) .1) in
+      let first = landing-first _ _ _ _ _ (ask-ok _ _ _ (laid .2) .1) in
       let placed = leaving-placed c bs t 0 (omega arith) full e in
       (omega arith, omega (arith, placed .position-most))
 

@@ -27,7 +27,7 @@ use Rattle.segment_postings.specs.declared.Answer.the-variants.{At, Refu
 use Rattle.segment_postings.specs.declared.Moved.{Moved}
 use Rattle.segment_postings.specs.declared.SegmentPostings.{SegmentPostings}
 use Rattle.segment_postings.specs.Cursor.{position, answerAt, moved, opened, stepping, advanced, docAt, freqAt, seeking, sought}
-use Rattle.segment_postings.specs.Called.{shown, called, callsFrom, calls, cursorAfter}
+use Rattle.segment_postings.specs.Called.{shown, called, callsFrom, calls, cursorAfter, Counts}
 use Rattle.segment_postings.specs.Called.{numbers, allNumbers, shownNumbers, positionsFrom, positions, modelNumbers}
 use Rattle.segment_postings.proofs.Laws.CursorTurns.{moved-ok, opened-is}
 use Rattle.segment_postings.proofs.Simulation.HoldsBlock.{doc-holds, freq-holds}
@@ -159,12 +159,6 @@ calls-show t bs sound cs =
     let s = sound-image t bs sound in
     let p = opening-agrees s in
     rw (calls-is, opened-is, p .2, moved-ok, answers-is) (ap₂ _∷_ (answer-agrees s (p .1)) (from-shows s (p .1) cs))
-
--- a cursor beside the model's state
-pub record Counts (t : Term) (c : SegmentPostings) (m : State) : Type 0 where
-  pub at-position : position c ≡ m .position
-  pub unpacked-visited : c .unpacked ≡ length (m .visited)
-  pub entries-are : c .entries ≡ entriesRead (t .count) (m .position)
 
 -- after the calls the cursor holds the block of the model's position
 pub calls-stand : (t : Term) (bs : List ℕ) (sound : reading t bs .refusal ≡ 0) (cs : List Call)

@@ -26,8 +26,9 @@ use Rattle.format.proofs.SkipEntry.{entryFits-true}
 use Rattle.format.proofs.Blocks.{blockAt, leastAt, tail-sound}
 use Rattle.format.proofs.BlocksAt.{skipsAt, bytesBefore, full-at, tail-at}
 use Rattle.format.proofs.Sound.{Sound, sound-blocks}
-use Rattle.segment_postings.specs.declared.Found.{Found}
-use Rattle.segment_postings.specs.Cursor.{tailInfo, findBlock, loadBlock}
+use Rattle.segment_postings.specs.declared.find.Found.{Found}
+use Rattle.segment_postings.specs.declared.find.Start.{Start}
+use Rattle.segment_postings.specs.Landing.{tailInfo, findBlock, loadBlock}
 use Rattle.segment_postings.proofs.Laws.CursorTurns.{findBlock-zero, findBlock-suc, loadBlock-is}
 
 -- where block b begins in the image
@@ -78,6 +79,11 @@ module _ {t : Term} {bs : List ℕ} (s : Sound t bs) where
     pub last-is : f .info .«last_doc» ≡ blockAt blocks (f .block) .last
     pub next-is : f .at + blockSize (f .info) ≡ start (min (fullBlocks t) (f .block + 1))
     pub loads : loadBlock t (s .laid) bs f ≡ ok (blockAt blocks (f .block))
+
+  -- a search from block b on
+  abbrev pub startAt : ℕ → ℕ → ℕ → Start
+  startAt b entries unpacked =
+      record { block = b; at = start b; least = leastAt 0 blocks b; entries = entries; unpacked = unpacked }
 
   abbrev fullFound : ℕ → ℕ → Found
   fullFound b entries = record { block = b; at = start b; least = leastAt 0 blocks b; info = entry b; entries = entries }
@@ -142,14 +148,14 @@ module _ {t : Term} {bs : List ℕ} (s : Sound t bs) where
       }
 
   -- n full blocks are left
-  pub search-lands : (target n b entries : ℕ) → b + n ≡ fullBlocks t → entries ≡ b
+  pub search-lands : (target n b entries unpacked : ℕ) → b + n ≡ fullBlocks t → entries ≡ b
       → (f : Found) × Lands target b f
-      × (findBlock (s .laid .option) (skipBytes (s .laid) bs) bs target n b (start b) (leastAt 0 blocks b) entries ≡ ok f)
+      × (findBlock (s .laid .option) (skipBytes (s .laid) bs) bs target n (startAt b entries unpacked) ≡ ok f)
   unfolding ask choose
-  search-lands target zero b entries e k =
+  search-lands target zero b entries unpacked e k =
       let all : b ≡ fullBlocks t = omega arith in
-      rw all (tailFound entries, tail-lands target entries (omega arith), findBlock-zero _ _ _ _ _ _ _ _)
-  search-lands target (suc n) b entries e k =
+      rw all (tailFound entries, tail-lands target entries (omega arith), findBlock-zero _ _ _ _ _)
+  search-lands target (suc n) b entries unpacked e k =
       let h : b < fullBlocks t = omega arith in
       elim (decLe target (blockAt blocks b .last)) [
         | yes reached ↦ (
@@ -159,7 +165,7 @@ module _ {t : Term} {bs : List ℕ} (s : Sound t bs) where
         )
         | no passed ↦
             let below : blockAt blocks b .last < target = omega arith in
-            let later = search-lands target n (suc b) (entries + 1) (omega arith) (omega arith) in (
+            let later = search-lands target n (suc b) (entries + 1) unpacked (omega arith) (omega arith) in (
               later .0,
               later-lands target b (later .0) below (later .1),
               rw (findBlock-suc, entry-fits b h, lt-leb target (entry b .«last_doc») (rw (entry-last b h) below), add-assoc, add-one b)

@@ -21,11 +21,12 @@ use Rattle.format.specs.Reading.{Block, reading, docsOf, freqsOf}
 use Rattle.format.proofs.Blocks.{blockAt, leastAt, full-sound, tail-sound, docs-many, freqs-many, doc-at, freq-at}
 use Rattle.format.proofs.Sound.{Sound, sound-blocks, whole-count, tail-short}
 use Rattle.segment_postings.specs.declared.Answer.the-variants.{At}
-use Rattle.segment_postings.specs.declared.Found.{Found}
+use Rattle.segment_postings.specs.declared.find.Found.{Found}
 use Rattle.segment_postings.specs.declared.SegmentPostings.{SegmentPostings}
-use Rattle.segment_postings.specs.Cursor.{padded, holding, landing, position, inBounds, answerAt, opening, atPlace}
+use Rattle.segment_postings.specs.Landing.{padded, holding, landing}
+use Rattle.segment_postings.specs.Cursor.{position, inBounds, answerAt, opening, atPlace}
 use Rattle.segment_postings.specs.Cursor.{leastAfter, leaving, stepping, valueAt, docAt, freqAt}
-use Rattle.segment_postings.proofs.Simulation.EntriesLeadTo.{startOf, last-below, start-inside, Lands, search-lands}
+use Rattle.segment_postings.proofs.Simulation.EntriesLeadTo.{startOf, startAt, last-below, start-inside, Lands, search-lands}
 use Rattle.segment_postings.proofs.Laws.LandingParts.{starts-behind}
 use Rattle.segment_postings.proofs.Laws.CursorTurns.{landing-is, answerAt-is, opening-is, leaving-is, stepping-is}
 
@@ -82,10 +83,10 @@ module _ {t : Term} {bs : List ℕ} (s : Sound t bs) where
 
   pub landing-landed : (target b unpacked : ℕ) → b ≤ fullBlocks t → unpacked ≤ b
       → (c : SegmentPostings) × Landed s target b unpacked c
-      × (landing t bs (s .laid) target b (startOf (s .laid) bs b) (leastAt 0 blocks b) b unpacked ≡ ok c)
+      × (landing t bs (s .laid) target (startAt s b b unpacked) ≡ ok c)
   unfolding andThen
   landing-landed target b unpacked h few =
-      let p = search-lands s target (fullBlocks t - b) b b (omega arith) refl in
+      let p = search-lands s target (fullBlocks t - b) b b unpacked (omega arith) refl in
       (_, holding-landed target b unpacked (p .0) few (p .1), rw (landing-is, p .2, p .1 .loads))
 
   -- a search for 0 ends at once

@@ -18,7 +18,7 @@ use Rattle.format.proofs.Values.{rising-cons}
 use Rattle.format.proofs.Below.{count-reaches, count-filled}
 use Rattle.block_search.specs.Search.{searchBlock}
 use Rattle.block_search.proofs.Search.{search-is-count}
-use Rattle.segment_postings.specs.Cursor.{padded}
+use Rattle.segment_postings.specs.Landing.{padded}
 
 -- documents that rise, filled up with TERMINATED, never fall
 filled-rises : (least k : ℕ) (ds : List ℕ) (i : ℕ) → rising least ds ≡ true

@@ -22,7 +22,8 @@ use Rattle.format.proofs.Blocks.{blockAt, leastAt, full-sound, tail-sound, docs
 use Rattle.format.proofs.Sound.{Sound, sound-blocks, whole-count, tail-short}
 use Rattle.block_search.specs.Search.{searchBlock}
 use Rattle.segment_postings.specs.declared.SegmentPostings.{SegmentPostings}
-use Rattle.segment_postings.specs.Cursor.{padded, atPlace}
+use Rattle.segment_postings.specs.Landing.{padded}
+use Rattle.segment_postings.specs.Cursor.{atPlace}
 use Rattle.segment_postings.proofs.Simulation.EntriesLeadTo.{last-below}
 use Rattle.segment_postings.proofs.Simulation.HoldsBlock.{Holds, place-holds}
 use Rattle.segment_postings.proofs.Simulation.PaddedDocs.{Searches, full-last, tail-last, padded-search}

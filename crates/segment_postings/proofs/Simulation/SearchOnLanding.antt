@@ -23,9 +23,11 @@ use Rattle.format.proofs.Below.{count-le, count-filled}
 use Rattle.format.proofs.Choice.{choose-elim}
 use Rattle.format.proofs.Outcome.{ok-same, ask-ok, andThen-ok}
 use Rattle.format.proofs.SoundBlock.{fullBlock-sound, tailBlock-sound}
-use Rattle.segment_postings.specs.declared.Found.{Found}
+use Rattle.segment_postings.specs.declared.find.Found.{Found}
+use Rattle.segment_postings.specs.declared.find.Start.{Start}
 use Rattle.segment_postings.specs.declared.SegmentPostings.{SegmentPostings}
-use Rattle.segment_postings.specs.Cursor.{findBlock, loadBlock, padded, holding, landing, leaving, placeOf}
+use Rattle.segment_postings.specs.Landing.{startAfter, findBlock, loadBlock, padded, holding, landing}
+use Rattle.segment_postings.specs.Cursor.{startBehind, leaving, placeOf}
 use Rattle.segment_postings.proofs.find.FoundBlock.{entryOf, find-tail, find-entry}
 use Rattle.segment_postings.proofs.Simulation.PaddedDocs.{full-last, tail-last, padded-length, padded-rises, padded-search}
 use Rattle.segment_postings.proofs.Laws.CursorTurns.{loadBlock-is, landing-is, leaving-is}
@@ -39,16 +41,16 @@ module _ (option : IndexRecordOption) (skips bs : List ℕ) (target : ℕ) where
     reaches : f .block < full → target ≤ f .info .«last_doc»
 
   -- from block b on, with n full ones left
-  chosen : (n b at least entries : ℕ) {f : Found} → findBlock option skips bs target n b at least entries ≡ ok f → Chosen (b + n) f
-  chosen zero b at least entries e =
-      subst (Chosen (b + 0)) (ok-same (sym (find-tail option skips bs target b at least entries) ∙ e))
+  chosen : (n : ℕ) (s : Start) {f : Found} → findBlock option skips bs target n s ≡ ok f → Chosen (s .block + n) f
+  chosen zero s e =
+      subst (Chosen (s .block + 0)) (ok-same (sym (find-tail option skips bs target s) ∙ e))
       (record { block-most = omega arith; reaches = λ h. absurd (omega arith) })
-  chosen (suc n) b at least entries {f} e =
-      let turn = ask-ok _ _ _ (sym (find-entry option skips bs target n b at least entries) ∙ e) in
-      choose-elim (λ o. o ≡ ok f → Chosen (b + suc n) f) (leb target (entryOf option skips b .«last_doc»)) _ _
-      (λ t here. subst (Chosen (b + suc n)) (ok-same here) (record { block-most = omega arith; reaches = λ _. leb-true _ _ t }))
+  chosen (suc n) s {f} e =
+      let turn = ask-ok _ _ _ (sym (find-entry option skips bs target n s) ∙ e) in
+      choose-elim (λ o. o ≡ ok f → Chosen (s .block + suc n) f) (leb target (entryOf option skips (s .block) .«last_doc»)) _ _
+      (λ t here. subst (Chosen (s .block + suc n)) (ok-same here) (record { block-most = omega arith; reaches = λ _. leb-true _ _ t }))
       (λ _ on.
-      let k = chosen n (b + 1) _ _ (entries + 1) on in
+      let k = chosen n (startAfter s (entryOf option skips (s .block))) on in
       record { block-most = omega (arith, k .block-most); reaches = λ h. k .reaches (omega arith) })
       (turn .1)
 
@@ -101,17 +103,16 @@ module _ (t : Term) (bs : List ℕ) (l : Layout) (target : ℕ) (small : target 
       (omega (arith, sound .docs-many)))
       (sym (loadBlock-is t l bs f) ∙ e)
 
-  pub landing-placed : (b at least entries unpacked : ℕ) {d : SegmentPostings} → b ≤ fullBlocks t
-      → landing t bs l target b at least entries unpacked ≡ ok d → Placed t target d
-  landing-placed b at least entries unpacked h e =
-      let found = andThen-ok _ _ (sym (landing-is t bs l target b at least entries unpacked) ∙ e) in
+  pub landing-placed : (s : Start) {d : SegmentPostings} → s .block ≤ fullBlocks t → landing t bs l target s ≡ ok d → Placed t target d
+  landing-placed s h e =
+      let found = andThen-ok _ _ (sym (landing-is t bs l target s) ∙ e) in
       let block = andThen-ok _ _ (found .2) in
-      let k = chosen _ _ _ _ _ _ _ _ _ (found .1) in
+      let k = chosen _ _ _ _ _ s (found .1) in
       subst (Placed t target) (ok-same (block .2))
-      (load-placed (found .0) unpacked (omega (arith, k .block-most)) (λ m. k .reaches (omega arith)) (block .1))
+      (load-placed (found .0) (s .unpacked) (omega (arith, k .block-most)) (λ m. k .reaches (omega arith)) (block .1))
 
 pub leaving-placed : (c : SegmentPostings) (bs : List ℕ) (t : Term) (target : ℕ) {d : SegmentPostings} → target ≤ TERMINATED
     → c .block < fullBlocks t → leaving c bs t target ≡ ok d → Placed t target d
 leaving-placed c bs t target small full e =
     let laid = andThen-ok _ _ (sym (leaving-is c bs t target) ∙ e) in
-    landing-placed t bs _ target small _ _ _ _ _ (omega arith) (ask-ok _ _ _ (laid .2) .1)
+    landing-placed t bs _ target small (startBehind c) (omega arith) (ask-ok _ _ _ (laid .2) .1)

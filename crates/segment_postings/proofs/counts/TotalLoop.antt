@@ -22,12 +22,12 @@ use Rattle.format.specs.Counts.{countBelow, sum, totalIn}
 use Rattle.format.proofs.Below.{count-le}
 use Rattle.segment_postings.specs.declared.counts.Front.{Front}
 use Rattle.segment_postings.specs.declared.Held.{Held}
-use Rattle.segment_postings.specs.Cursor.{landing}
+use Rattle.segment_postings.specs.Landing.{landing}
 use Rattle.segment_postings.specs.Passed.{docsIn, FrontOf}
 use Rattle.segment_postings.proofs.Admission.LandingReads.{BlockHeld, landing-none, reads-first, reads-on, reads-last}
 use Rattle.segment_postings.proofs.layout.SplitParts.{laid-out}
 use Rattle.segment_postings.proofs.counts.TotalInBlocks.{added, added-zero, added-twice, total-refused, total-ended, total-stops, total-passes}
-use Rattle.segment_postings.proofs.Admission.WalkReads.{readingAt, reading-whole}
+use Rattle.segment_postings.proofs.Admission.WalkReads.{walking, readingAt, reading-whole}
 
 -- each frequency is below 2 ^ 32, so that a block adds less than 2 ^ 39
 pub record Walked (t : Term) (l : Layout) (bs : List ℕ) (target b at least passed : ℕ) : Type 0 where
@@ -48,7 +48,7 @@ walked-none t l bs target e =
 module _ {t : Term} {l : Layout} {bs : List ℕ} {target b at least passed : ℕ} (w : Walked t l bs target b at least passed) where
   -- ---- a block that is refused
 
-  pub walk-refused : {n : ℕ} → landing t bs l 0 b at least b b ≡ refused n → totalIn target (reading t bs) ≡ refused n
+  pub walk-refused : {n : ℕ} → landing t bs l 0 (walking b at least) ≡ refused n → totalIn target (reading t bs) ≡ refused n
   unfolding added
   walk-refused {n} e =
       let none = landing-none t l bs b at least e in

@@ -20,9 +20,10 @@ use Rattle.format.specs.SkipEntry.{entrySize, readEntry, blockSize, entryFits}
 use Rattle.format.specs.Layout.{fullBlocks, skipBytes}
 use Rattle.format.proofs.Choice.{choose-elim}
 use Rattle.format.proofs.Outcome.{ok-same, ask-ok}
-use Rattle.segment_postings.specs.declared.Found.{Found}
-use Rattle.segment_postings.specs.Cursor.{tailInfo, findBlock}
-use Rattle.segment_postings.specs.Calls.{FindsFrom, FoundThere}
+use Rattle.segment_postings.specs.declared.find.Found.{Found}
+use Rattle.segment_postings.specs.declared.find.Start.{Start}
+use Rattle.segment_postings.specs.Landing.{tailInfo, startAfter, findBlock}
+use Rattle.segment_postings.specs.Private.{FindsFrom, FoundThere}
 
 -- an entry that passed question 5
 pub record Passed (least left : ℕ) (e : BlockInfo) : Type 0 where
@@ -51,56 +52,57 @@ entryOf option skips b = readEntry option (drop (entrySize option * b) skips)
 module _ (option : IndexRecordOption) (skips bs : List ℕ) (target : ℕ) where
   -- ---- a turn
 
-  pub find-tail : (b at least entries : ℕ)
-      → findBlock option skips bs target zero b at least entries
-      ≡ ok (record { block = b; at = at; least = least; info = tailInfo; entries = entries })
+  pub find-tail : (s : Start)
+      → findBlock option skips bs target zero s
+      ≡ ok (record { block = s .block; at = s .at; least = s .least; info = tailInfo; entries = s .entries })
   unfolding findBlock
-  find-tail b at least entries = refl
+  find-tail s = refl
 
-  pub find-entry : (n b at least entries : ℕ)
-      → findBlock option skips bs target (suc n) b at least entries
-      ≡ (ask (entryFits least (length bs - at) (entryOf option skips b)) entryBroken λ _.
-      choose (leb target (entryOf option skips b .«last_doc»))
-      (λ _. ok (record { block = b; at = at; least = least; info = entryOf option skips b; entries = entries + 1 }))
-      (λ _. findBlock option skips bs target n (b + 1) (at + blockSize (entryOf option skips b)) (entryOf option skips b .«last_doc» + 1) (entries + 1)))
+  pub find-entry : (n : ℕ) (s : Start)
+      → findBlock option skips bs target (suc n) s
+      ≡ (ask (entryFits (s .least) (length bs - s .at) (entryOf option skips (s .block))) entryBroken λ _.
+      choose (leb target (entryOf option skips (s .block) .«last_doc»))
+      (λ _. ok (record { block = s .block; at = s .at; least = s .least; info = entryOf option skips (s .block); entries = s .entries + 1 }))
+      (λ _. findBlock option skips bs target n (startAfter s (entryOf option skips (s .block)))))
   unfolding findBlock
-  find-entry n b at least entries = refl
+  find-entry n s = refl
 
   -- .. at a block with an entry, of `full` blocks in all
-  module _ (full b at least entries : ℕ) (e : BlockInfo) (some : b < full) (read : e ≡ entryOf option skips b) where
-    find-turn : findBlock option skips bs target (full - b) b at least entries
-        ≡ (ask (entryFits least (length bs - at) e) entryBroken λ _.
+  module _ (full : ℕ) (s : Start) (e : BlockInfo) (some : s .block < full) (read : e ≡ entryOf option skips (s .block)) where
+    find-turn : findBlock option skips bs target (full - s .block) s
+        ≡ (ask (entryFits (s .least) (length bs - s .at) e) entryBroken λ _.
         choose (leb target (e .«last_doc»))
-        (λ _. ok (record { block = b; at = at; least = least; info = e; entries = entries + 1 }))
-        (λ _. findBlock option skips bs target (full - (b + 1)) (b + 1) (at + blockSize e) (e .«last_doc» + 1) (entries + 1)))
+        (λ _. ok (record { block = s .block; at = s .at; least = s .least; info = e; entries = s .entries + 1 }))
+        (λ _. findBlock option skips bs target (full - (s .block + 1)) (startAfter s e)))
     find-turn =
-        let left : full - b ≡ suc (full - (b + 1)) = omega arith in
-        rw (read, left) (find-entry (full - (b + 1)) b at least entries)
+        let left : full - s .block ≡ suc (full - (s .block + 1)) = omega arith in
+        rw (read, left) (find-entry (full - (s .block + 1)) s)
 
-    pub find-broken : entryFits least (length bs - at) e ≡ false → findBlock option skips bs target (full - b) b at least entries ≡ refused entryBroken
+    pub find-broken : entryFits (s .least) (length bs - s .at) e ≡ false → findBlock option skips bs target (full - s .block) s ≡ refused entryBroken
     unfolding ask
     find-broken t = rw (find-turn, t)
 
-    module _ (fits : entryFits least (length bs - at) e ≡ true) where
+    module _ (fits : entryFits (s .least) (length bs - s .at) e ≡ true) where
       pub find-here : target ≤ e .«last_doc»
-          → findBlock option skips bs target (full - b) b at least entries
-          ≡ ok (record { block = b; at = at; least = least; info = e; entries = entries + 1 })
+          → findBlock option skips bs target (full - s .block) s
+          ≡ ok (record { block = s .block; at = s .at; least = s .least; info = e; entries = s .entries + 1 })
       unfolding ask choose
       find-here h = rw (find-turn, fits, le-leb _ _ h)
 
       pub find-on : {size : ℕ} → e .«last_doc» < target → size ≡ blockSize e
-          → findBlock option skips bs target (full - b) b at least entries
-          ≡ findBlock option skips bs target (full - (b + 1)) (b + 1) (at + size) (e .«last_doc» + 1) (entries + 1)
+          → findBlock option skips bs target (full - s .block) s
+          ≡ findBlock option skips bs target (full - (s .block + 1))
+          (record { block = s .block + 1; at = s .at + size; least = e .«last_doc» + 1; entries = s .entries + 1; unpacked = s .unpacked })
       unfolding ask choose
-      find-on h s = rw (find-turn, fits, lt-leb _ _ h, s)
+      find-on h z = rw (find-turn, fits, lt-leb _ _ h, z)
 
   -- .. behind the last
-  pub find-end : (full b at least entries : ℕ) (e : BlockInfo) → full ≤ b → e ≡ tailInfo
-      → findBlock option skips bs target (full - b) b at least entries
-      ≡ ok (record { block = b; at = at; least = least; info = e; entries = entries })
-  find-end full b at least entries e h i =
-      let none : full - b ≡ 0 = omega arith in
-      rw (i, none) (find-tail b at least entries)
+  pub find-end : (full : ℕ) (s : Start) (e : BlockInfo) → full ≤ s .block → e ≡ tailInfo
+      → findBlock option skips bs target (full - s .block) s
+      ≡ ok (record { block = s .block; at = s .at; least = s .least; info = e; entries = s .entries })
+  find-end full s e h i =
+      let none : full - s .block ≡ 0 = omega arith in
+      rw (i, none) (find-tail s)
 
 -- ---- the block that a search comes to
 
@@ -174,33 +176,34 @@ module _ (option : IndexRecordOption) (skips bs : List ℕ) where
         least-known = least-on option skips b least f (l .least-known);
       }
 
-  landed : (target n b at least entries : ℕ) {f : Found} → at ≤ length bs
-      → findBlock option skips bs target n b at least entries ≡ ok f → Landed n b least entries f
-  landed target zero b at least entries h e =
-      subst (Landed zero b least entries) (ok-same (sym (find-tail option skips bs target b at least entries) ∙ e))
-      (landed-tail b at least entries h)
-  landed target (suc n) b at least entries {f} h e =
-      let turn = ask-ok _ _ _ (sym (find-entry option skips bs target n b at least entries) ∙ e) in
+  landed : (target n : ℕ) (s : Start) {f : Found} → s .at ≤ length bs
+      → findBlock option skips bs target n s ≡ ok f → Landed n (s .block) (s .least) (s .entries) f
+  landed target zero s h e =
+      subst (Landed zero (s .block) (s .least) (s .entries)) (ok-same (sym (find-tail option skips bs target s) ∙ e))
+      (landed-tail (s .block) (s .at) (s .least) (s .entries) h)
+  landed target (suc n) s {f} h e =
+      let turn = ask-ok _ _ _ (sym (find-entry option skips bs target n s) ∙ e) in
       let p = passed _ _ _ (turn .0) in
-      choose-elim (λ o. o ≡ ok f → Landed (suc n) b least entries f) (leb target (entryOf option skips b .«last_doc»)) _ _
-      (λ _ here. subst (Landed (suc n) b least entries) (ok-same here) (landed-here n b at least entries h p))
-      (λ _ on. landed-on n b least entries f (landed target n (b + 1) _ _ (entries + 1) (omega (arith, p .bytes)) on))
+      choose-elim (λ o. o ≡ ok f → Landed (suc n) (s .block) (s .least) (s .entries) f) (leb target (entryOf option skips (s .block) .«last_doc»)) _ _
+      (λ _ here. subst (Landed (suc n) (s .block) (s .least) (s .entries)) (ok-same here)
+      (landed-here n (s .block) (s .at) (s .least) (s .entries) h p))
+      (λ _ on. landed-on n (s .block) (s .least) (s .entries) f (landed target n (startAfter s (entryOf option skips (s .block))) (omega (arith, p .bytes)) on))
       (turn .1)
 
 -- what is known of it by where the search began
-pub record FoundFrom (t : Term) (l : Layout) (bs : List ℕ) (block least entries : ℕ) (f : Found) : Type 0 where
-  pub block-least : block ≤ f .block
+pub record FoundFrom (t : Term) (l : Layout) (bs : List ℕ) (s : Start) (f : Found) : Type 0 where
+  pub block-least : s .block ≤ f .block
   -- an entry is read for each full block from the first to the one found
-  pub entries-read : f .entries ≡ entries + (min (fullBlocks t) (f .block + 1) - block)
-  pub entries-most : entries ≤ min block (fullBlocks t) → f .entries ≤ min (f .block + 1) (fullBlocks t)
-  pub least-known : LeastKnown (l .option) (skipBytes l bs) block least f
+  pub entries-read : f .entries ≡ s .entries + (min (fullBlocks t) (f .block + 1) - s .block)
+  pub entries-most : s .entries ≤ min (s .block) (fullBlocks t) → f .entries ≤ min (f .block + 1) (fullBlocks t)
+  pub least-known : LeastKnown (l .option) (skipBytes l bs) (s .block) (s .least) f
 
-module _ (t : Term) (l : Layout) (bs : List ℕ) (target block at least entries : ℕ) {f : Found} (from : FindsFrom t l bs block at entries)
-    (e : findBlock (l .option) (skipBytes l bs) bs target (fullBlocks t - block) block at least entries ≡ ok f) where
-  land : Landed (l .option) (skipBytes l bs) bs (fullBlocks t - block) block least entries f
-  land = landed (l .option) (skipBytes l bs) bs target (fullBlocks t - block) block at least entries (from .inside) e
+module _ (t : Term) (l : Layout) (bs : List ℕ) (target : ℕ) (s : Start) {f : Found} (from : FindsFrom t l bs s)
+    (e : findBlock (l .option) (skipBytes l bs) bs target (fullBlocks t - s .block) s ≡ ok f) where
+  land : Landed (l .option) (skipBytes l bs) bs (fullBlocks t - s .block) (s .block) (s .least) (s .entries) f
+  land = landed (l .option) (skipBytes l bs) bs target (fullBlocks t - s .block) s (from .inside) e
 
-  pub found-from : FoundFrom t l bs block least entries f
+  pub found-from : FoundFrom t l bs s f
   found-from =
       record {
         block-least = land .block-least;

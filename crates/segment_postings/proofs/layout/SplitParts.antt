@@ -3,14 +3,14 @@
 -- above the bytes behind it.
 -- Assumes nothing.
 use mathlib.Core.Bool.{true, _&&_ as and}
-use mathlib.Core.List.{List, []}
-use mathlib.Core.Path.{_≡_, refl, sym, subst, _∙_}
+use mathlib.Core.List.{List}
+use mathlib.Core.Path.{_≡_, refl, sym, ap, subst, _∙_}
 use Prim.Native.Nat.{ℕ, _+_, _-_, _*_, _/_, _^_, _≤_, _<_}
 use native.Mathlib.Nat.{add-sub-cancel-left, mul-zero, mul-suc, mul-le-mul-left}
 use native.Mathlib.Omega.{arith}
 use borrow.Author.Tests.{leb-true, leb-false, eqb-true, eqb-false, eq-eqb, ne-eqb, le-leb, lt-leb}
 use lib.Dec.{eqb, leb}
-use lib.ListN.{length, take, drop, length-take, length-drop}
+use lib.ListN.{length, length-take, length-drop}
 use Rattle.format.specs.declared.Layout.{Layout}
 use Rattle.format.specs.declared.Term.{Term}
 use Rattle.format.specs.declared.VInt.{VInt}
@@ -27,7 +27,7 @@ use Rattle.format.proofs.Opened.{sized-is, split-number, layout-is}
 use Rattle.format.proofs.Vints.{read-used}
 use Rattle.segment_postings.specs.declared.layout.Split.{Split}
 use Rattle.segment_postings.specs.declared.layout.Split.the-variants.{At, Broken}
-use Rattle.segment_postings.specs.Calls.{skipPartAt, skipPart, postingPartAt, postingPart, splitBehind, splitOf}
+use Rattle.segment_postings.specs.Calls.{splitBehind, splitOf, partOf, skipsAt, postingsAt, skipPart, postingPart}
 
 -- what holds each time question 3 is answered, whatever the answer, holds of the split
 module _ (count : ℕ) (bs : List ℕ) (P : Split → Type 0)
@@ -72,33 +72,17 @@ split-places count bs e = rw e at (split-inside count bs)
 
 -- ---- the parts
 
-abbrev pub skipsAt : List ℕ → Split → List ℕ
-skipsAt bs (At skips postings) = take (postings - skips) (drop skips bs)
-skipsAt bs Broken = []
+part-at : (part : ℕ → ℕ → List ℕ) (count : ℕ) (bs : List ℕ) {r : Split} → splitOf count bs ≡ r → partOf part r ≡ partOf part (splitOf count bs)
+part-at part count bs e = ap (partOf part) (sym e)
 
-pub skips-at : (count : ℕ) (bs : List ℕ) {r : Split} → splitOf count bs ≡ r → skipsAt bs r ≡ skipPart count bs
-unfolding choose skipPart skipPartAt
-skips-at count bs e =
-    rw e at
-    (split-elim count bs (λ r. skipsAt bs r ≡ skipPart count bs)
-    (λ z. rw (eq-eqb _ _ z))
-    (λ size used z v h. rw (ne-eqb _ _ z, v, le-leb _ _ h, add-sub-cancel-left))
-    (λ size used z v h. rw (ne-eqb _ _ z, v, lt-leb _ _ h))
-    (λ z v. rw (ne-eqb _ _ z, v)))
+module _ (count : ℕ) (bs : List ℕ) {r : Split} (e : splitOf count bs ≡ r) where
+  pub skips-at : partOf (skipsAt bs) r ≡ skipPart count bs
+  unfolding skipPart
+  skips-at = part-at (skipsAt bs) count bs e
 
-abbrev pub postingsAt : List ℕ → Split → List ℕ
-postingsAt bs (At skips postings) = drop postings bs
-postingsAt bs Broken = []
-
-pub postings-at : (count : ℕ) (bs : List ℕ) {r : Split} → splitOf count bs ≡ r → postingsAt bs r ≡ postingPart count bs
-unfolding choose postingPart postingPartAt
-postings-at count bs e =
-    rw e at
-    (split-elim count bs (λ r. postingsAt bs r ≡ postingPart count bs)
-    (λ z. rw (eq-eqb _ _ z))
-    (λ size used z v h. rw (ne-eqb _ _ z, v, le-leb _ _ h))
-    (λ size used z v h. rw (ne-eqb _ _ z, v, lt-leb _ _ h))
-    (λ z v. rw (ne-eqb _ _ z, v)))
+  pub postings-at : partOf (postingsAt bs) r ≡ postingPart count bs
+  unfolding postingPart
+  postings-at = part-at (postingsAt bs) count bs e
 
 -- ---- the layout
 

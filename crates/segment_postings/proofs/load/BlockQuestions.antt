@@ -29,9 +29,9 @@ use Rattle.format.proofs.Opened.{fullDocs-is, fullFreqs-unread, fullFreqs-read,
 use Rattle.format.proofs.ValuesCode.{restored-not-strict}
 use Rattle.format.proofs.Vints.{numbers-used}
 use Rattle.vint.specs.Numbers.{behind, filled}
-use Rattle.segment_postings.specs.declared.Found.{Found}
+use Rattle.segment_postings.specs.declared.find.Found.{Found}
 use Rattle.segment_postings.specs.declared.load.Taken.{Taken}
-use Rattle.segment_postings.specs.Cursor.{loadBlock}
+use Rattle.segment_postings.specs.Landing.{loadBlock}
 use Rattle.segment_postings.specs.Taken.{fullTaken, tailTaken, endsOn, takenFreqs, askedFreqs, askedDocs, asked}
 
 -- ---- the definitions, opened by one turn

@@ -25,7 +25,7 @@ use Rattle.format.proofs.Bitpacking.{unpack-length}
 use Rattle.bitpacking.specs.Packed.{Unpacked}
 use Rattle.bitpacking.proofs.Room.{narrow}
 use Rattle.vint.specs.Numbers.{behind, filled}
-use Rattle.segment_postings.specs.declared.Found.{Found}
+use Rattle.segment_postings.specs.declared.find.Found.{Found}
 use Rattle.segment_postings.specs.declared.load.Taken.{Taken}
 use Rattle.segment_postings.specs.Taken.{fullTaken, tailTaken, askedFreqs, asked, Takes, ValuesTaken}
 use Rattle.segment_postings.proofs.load.BlockQuestions.{full-unread, full-read, asked-full, tail-none, tail-unwanted, tail-short, tail-read}

@@ -17,12 +17,12 @@ use Rattle.format.proofs.Area.{putAt-paste, putAt-append, fits-front, fits-back
 use Rattle.format.proofs.Blocks.{docs-many, freqs-many}
 use Rattle.format.proofs.Sound.{sound-image, sound-blocks, whole-count}
 use Rattle.segment_postings.specs.declared.Held.{Held}
-use Rattle.segment_postings.specs.Cursor.{landing}
+use Rattle.segment_postings.specs.Landing.{landing}
 use Rattle.segment_postings.specs.Passed.{docsIn}
 use Rattle.segment_postings.specs.ReadWhole.{Walks, Written}
 use Rattle.segment_postings.proofs.Admission.LandingReads.{BlockHeld, docs-in-full, landing-none, reads-first, reads-on, reads-last}
 use Rattle.segment_postings.proofs.layout.SplitParts.{laid-out}
-use Rattle.segment_postings.proofs.Admission.WalkReads.{readingAt, reading-whole}
+use Rattle.segment_postings.proofs.Admission.WalkReads.{walking, readingAt, reading-whole}
 
 -- the front of a list put into an area is a copy of as many elements
 pub putAt-front : (p n : ℕ) (xs area : List ℕ) → n ≤ length xs → p + n ≤ length area → putAt p (take n xs) area ≡ paste area p xs n
@@ -87,7 +87,7 @@ copied-none t l bs docs freqs w =
 module _ {t : Term} {l : Layout} {bs docs₀ freqs₀ : List ℕ} {b at least : ℕ} {docs freqs : List ℕ}
     (w : Copied t l bs docs₀ freqs₀ b at least docs freqs) where
   -- no block is refused
-  pub never-refused : {n : ℕ} → landing t bs l 0 b at least b b ≡ refused n → ⊥
+  pub never-refused : {n : ℕ} → landing t bs l 0 (walking b at least) ≡ refused n → ⊥
   unfolding nothing
   never-refused e =
       let none = landing-none t l bs b at least e in

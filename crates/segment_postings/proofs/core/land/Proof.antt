@@ -17,7 +17,7 @@ unpack-found-requires : tie.Need-unpack-found-requires
 unpack-found-requires c κs =
     let f = c .before .before .before in
     let s = f .before .before .before .before in (
-      found-there _ _ _ _ _ _ _ _ (s .pre .0) (searched-to _ (sym (f .before .before .find-block .ensures) ∙ f .found .given .1)),
+      found-there _ _ _ _ _ (s .pre .0) (searched-to _ (sym (f .before .before .find-block .ensures) ∙ f .found .given .1)),
       s .pre .1,
     )
 
@@ -28,13 +28,13 @@ returns : tie.Need-returns
 returns c =
     let f = c .before .before .before .before in
     reaches-as
-    (landing-found _ _ _ _ _ _ _ _ _ (searched-to _ (sym (f .before .before .find-block .ensures) ∙ f .found .given .1)))
+    (landing-found _ _ _ _ _ (searched-to _ (sym (f .before .before .find-block .ensures) ∙ f .found .given .1)))
     (c .unpack-found .ensures)
 
 returns-2 : tie.Need-returns-2
 returns-2 c =
     none-reached _ _
-    (landing-refused _ _ _ _ _ _ _ _ _ (searched-refused _ (sym (c .before .before .before .find-block .ensures) ∙ c .before .n .given .1)))
+    (landing-refused _ _ _ _ _ (searched-refused _ (sym (c .before .before .before .find-block .ensures) ∙ c .before .n .given .1)))
 
 pub land-spec : {M : Type 1} → statement M
 land-spec =

@@ -54,7 +54,7 @@ unfolding cursorOf
 land-requires c κs =
     let l = c .before .before .before .before .before .before .before in
     let s = l .before .before .before .before in
-    (leaves-from _ _ _ (in-bounds s) (s .pre .1) (laid l), few s)
+    (leaves-from _ _ _ _ (in-bounds s) (s .pre .1) (laid l), few s)
 
 enum-known-again : tie.Need-enum-known-again
 enum-known-again c = search needs

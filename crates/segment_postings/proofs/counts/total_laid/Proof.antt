@@ -9,6 +9,7 @@ use Rattle.format.specs.Basics.{Outcome}
 use Rattle.format.specs.Layout.{fullBlocks}
 use Rattle.segment_postings.specs.Calls.{valued}
 use Rattle.segment_postings.proofs.Admission.LandingReads.{BlockHeld, block-held}
+use Rattle.segment_postings.proofs.Admission.WalkReads.{walking-from}
 use Rattle.segment_postings.proofs.Laws.LandingParts.{reached-at, reached-nowhere}
 use Rattle.segment_postings.proofs.counts.TotalLoop.{Walked, walked-none, walk-refused, walk-stops, walk-ends, walk-goes-on}
 use borrow.Author.Needs.{needs}
@@ -36,15 +37,7 @@ few p = omega (arith, p .loop .inv .block-most)
 land-requires : tie.Need-land-requires Inv-loop μ-loop
 land-requires c κs =
     let p = c .before .before in
-    let s = p .before .before .before in (
-      record {
-        laid-out = s .pre;
-        block-most = omega (arith, p .loop .inv .block-most);
-        inside = p .loop .inv .inside;
-        entries-most = omega arith;
-      },
-      few p,
-    )
+    (walking-from _ _ _ (p .before .before .before .pre) (p .loop .inv .block-most) (p .loop .inv .inside), few p)
 
 enum-known-held : tie.Need-enum-known-held Inv-loop μ-loop
 enum-known-held c = search needs
@@ -55,7 +48,7 @@ held : (c : tie.After-held Inv-loop μ-loop) →
     let p = a .before .before .before in
     let s = p .before .before .before in
     BlockHeld (s .args .term) (s .args .layout) (s .args .image .now) (p .loop .block) (p .loop .at) (p .loop .least) (c .held .given .0 .0)
-    (a .land .last .1 .1 .1 .1 .1 .1 .1 .1 .1 .0) (a .land .last .1 .1 .1 .1 .1 .1 .1 .1 .1 .1 .0)
+    (a .land .last .1 .1 .1 .1 .1 .0) (a .land .last .1 .1 .1 .1 .1 .1 .0)
 held c =
     let a = c .before .before in
     let p = a .before .before .before in

@@ -19,9 +19,10 @@ use Rattle.format.specs.Basics.{Outcome}
 use Rattle.format.specs.SkipEntry.{entrySize, readEntry, entryFits}
 use Rattle.format.specs.Layout.{fullBlocks, skipBytes}
 use Rattle.skip.proofs.Entry.{size-most}
-use Rattle.segment_postings.specs.declared.Found.{Found}
-use Rattle.segment_postings.specs.Cursor.{findBlock}
-use Rattle.segment_postings.specs.Calls.{searched}
+use Rattle.segment_postings.specs.declared.find.Found.{Found}
+use Rattle.segment_postings.specs.declared.find.Start.{Start}
+use Rattle.segment_postings.specs.Landing.{findBlock}
+use Rattle.segment_postings.specs.Private.{searched}
 use Rattle.segment_postings.proofs.layout.SplitParts.{laid-out, entry-inside}
 use Rattle.segment_postings.proofs.find.FoundBlock.{Passed, passed, entryOf, find-broken, find-here, find-on, find-end}
 use Rattle.segment_postings.proofs.find.find_block.Statement.{statement}
@@ -29,8 +30,9 @@ use Rattle.segment_postings.proofs.find.find_block.Tie as tie
 
 abbrev Inv-loop : tie.InvT-loop
 Inv-loop image target block₀ at₀ least₀ entries₀ option start end skips blocks size entry₀ block at least entries entry =
-    (findBlock option skips image target (blocks - block₀) block₀ at₀ least₀ entries₀
-    ≡ findBlock option skips image target (blocks - block) block at least entries)
+    ((unpacked : ℕ)
+    → findBlock option skips image target (blocks - block₀) (record { block = block₀; at = at₀; least = least₀; entries = entries₀; unpacked = unpacked })
+    ≡ findBlock option skips image target (blocks - block) (record { block = block; at = at; least = least; entries = entries; unpacked = unpacked }))
     × (entry ≡ size * block)
     × (at ≤ length image)
     × (entries ≤ block)
@@ -49,9 +51,9 @@ module _ (c : tie.After-entry-size Inv-loop μ-loop) where
   abbrev skips : List ℕ
   skips = take (layout .postings - layout .skips) (drop (layout .skips) image)
 
-  -- the search from block b on, of `full` blocks in all
-  abbrev from : ℕ → ℕ → ℕ → ℕ → ℕ → Outcome Found
-  from full b at least entries = findBlock (layout .option) skips image (c .before .before .before .before .args .target) (full - b) b at least entries
+  -- the search from a block on, of `full` blocks in all
+  abbrev search-from : ℕ → Start → Outcome Found
+  search-from full s = findBlock (layout .option) skips image (c .before .before .before .before .args .target) (full - s .block) s
 
   full : c .before .full-blocks .result ≡ fullBlocks (c .before .before .before .before .args .term)
   unfolding fullBlocks
@@ -60,14 +62,22 @@ module _ (c : tie.After-entry-size Inv-loop μ-loop) where
   few : c .before .full-blocks .result ≤ 2 ^ 25
   few = omega arith
 
--- what the search from the first block on gives, at the head of the loop
+-- what the search from the first block on gives, at the head of the loop: what it gives from the present one on
+abbrev here : tie.At-loop Inv-loop μ-loop → Start
+here c = record {
+  block = c .loop .block;
+  at = c .loop .at;
+  least = c .loop .least;
+  entries = c .loop .entries;
+  unpacked = c .before .before .before .before .before .args .from .unpacked;
+}
+
 whole : (c : tie.At-loop Inv-loop μ-loop)
     → (let a = c .before .before .before .before .before .args in
-    from (c .before) (fullBlocks (a .term)) (a .block) (a .at) (a .least) (a .entries)
-    ≡ from (c .before) (c .before .before .full-blocks .result) (c .loop .block) (c .loop .at) (c .loop .least) (c .loop .entries))
+    search-from (c .before) (fullBlocks (a .term)) (a .from) ≡ search-from (c .before) (c .before .before .full-blocks .result) (here c))
 whole c =
     let a = c .before .before .before .before .before .args in
-    ap (λ n. from (c .before) n (a .block) (a .at) (a .least) (a .entries)) (sym (full (c .before))) ∙ c .loop .inv .0
+    ap (λ n. search-from (c .before) n (a .from)) (sym (full (c .before))) ∙ c .loop .inv .0 (a .from .unpacked)
 
 -- the entry of a turn
 module _ (c : tie.In-loop Inv-loop μ-loop) where
@@ -134,10 +144,10 @@ mul-entry : tie.Need-mul-entry Inv-loop μ-loop
 mul-entry c =
     let start = c .before .before .before .before in
     rw (c .entry-size .ensures)
-    (omega (arith, start .pre, full c, few c, mul-le-mul-right (start .args .block) (size-most (start .args .layout .option))))
+    (omega (arith, start .pre, full c, few c, mul-le-mul-right (start .args .from .block) (size-most (start .args .layout .option))))
 
 loop-holds : tie.Need-loop-holds Inv-loop μ-loop
-loop-holds c = (refl, refl, omega arith, omega arith)
+loop-holds c = (λ _. refl, refl, omega arith, omega arith)
 
 entry-at-requires : tie.Need-entry-at-requires Inv-loop μ-loop
 entry-at-requires c κs = room c
@@ -152,7 +162,7 @@ returns : tie.Need-returns Inv-loop μ-loop
 unfolding searched skipBytes
 returns c =
     let k = c .before in
-    sym (ap searched (whole (head k) ∙ find-broken _ _ _ _ _ _ _ _ _ (info k) (some k) (read k) (asked k (not-true _ (c .if1 .taken)))))
+    sym (ap searched (whole (head k) ∙ find-broken _ _ _ _ _ (here (head k)) (info k) (some k) (read k) (asked k (not-true _ (c .if1 .taken)))))
 
 add-entries : tie.Need-add-entries Inv-loop μ-loop
 add-entries c = omega arith
@@ -162,7 +172,7 @@ unfolding searched skipBytes
 returns-2 c =
     let b = c .before .before in
     let k = b .before in
-    sym (ap searched (whole (head k) ∙ find-here _ _ _ _ _ _ _ _ _ (info k) (some k) (read k) (fits b) (c .if2 .taken)))
+    sym (ap searched (whole (head k) ∙ find-here _ _ _ _ _ (here (head k)) (info k) (some k) (read k) (fits b) (c .if2 .taken)))
 
 add-block : tie.Need-add-block Inv-loop μ-loop
 add-block c = omega arith
@@ -193,7 +203,10 @@ loop-again c =
     let l = head k .loop in
     let size = c .before .block-size .ensures in
     let next = mul-suc (head k .before .entry-size .result) (l .block) in (
-      l .inv .0 ∙ find-on _ _ _ _ _ _ _ _ _ (info k) (some k) (read k) (fits b) (c .before .before .if2 .left) size,
+      λ unpacked.
+          l .inv .0 unpacked
+          ∙ find-on _ _ _ _ _ (record { block = l .block; at = l .at; least = l .least; entries = l .entries; unpacked = unpacked }) (info k) (some k) (read k)
+          (fits b) (c .before .before .if2 .left) size,
       rw add-one (omega (arith, l .inv .1, next)),
       omega (arith, size, kept b .bytes),
       omega arith,
@@ -206,7 +219,7 @@ returns-3 : tie.Need-returns-3 Inv-loop μ-loop
 unfolding searched skipBytes
 returns-3 c =
     let l = c .before .before in
-    sym (ap searched (whole l ∙ find-end _ _ _ _ _ _ _ _ _ _ (c .before .loop-test .left) (c .tail-info .ensures)))
+    sym (ap searched (whole l ∙ find-end _ _ _ _ _ (here l) _ (c .before .loop-test .left) (c .tail-info .ensures)))
 
 pub find-block-spec : {M : Type 1} → statement M
 find-block-spec =

@@ -1,7 +1,7 @@
 -- `segment_postings::find::tail_info` meets its contract: it is the definition, field by field.
 -- Assumes nothing.
 use mathlib.Core.Path.{refl}
-use Rattle.segment_postings.specs.Cursor.{tailInfo}
+use Rattle.segment_postings.specs.Landing.{tailInfo}
 use Rattle.segment_postings.proofs.find.tail_info.Statement.{statement}
 use Rattle.segment_postings.proofs.find.tail_info.Tie as tie
 

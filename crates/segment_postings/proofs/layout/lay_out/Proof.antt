@@ -14,7 +14,7 @@ use Rattle.format.specs.declared.Term.{Term}
 use Rattle.format.specs.Basics.{ask}
 use Rattle.format.specs.Layout.{layout}
 use Rattle.segment_postings.specs.declared.layout.Split.{Split}
-use Rattle.segment_postings.specs.Calls.{laid}
+use Rattle.segment_postings.specs.Private.{laid}
 use Rattle.segment_postings.proofs.layout.SplitParts.{split-places, layoutAt, layout-at}
 use Rattle.segment_postings.proofs.layout.lay_out.Statement.{statement}
 use Rattle.segment_postings.proofs.layout.lay_out.Tie as tie

@@ -9,7 +9,7 @@ use denote.Ref.{now}
 use lib.ListN.{length-drop}
 use lib.Seq.{take-all}
 use Rattle.segment_postings.specs.declared.layout.Split.the-variants.{At}
-use Rattle.segment_postings.specs.Calls.{splitOf}
+use Rattle.segment_postings.specs.Calls.{splitOf, partOf}
 use Rattle.segment_postings.proofs.layout.SplitParts.{split-places, postings-at}
 use Rattle.segment_postings.proofs.layout.posting_bytes.Statement.{statement}
 use Rattle.segment_postings.proofs.layout.posting_bytes.Tie as tie
@@ -44,15 +44,18 @@ slice-aggregate-result : tie.Need-slice-aggregate-result
 slice-aggregate-result c = search needs
 
 returns : tie.Need-returns
+unfolding partOf
 returns c =
     let bs = image (c .before) in
     let all = take-all _ _ (le-of-eq (length-drop (c .before .before .postings .given .0 .1 .0) bs)) in
     all ∙ postings-at _ bs (found (c .before))
 
 returns-2 : tie.Need-returns-2
+unfolding partOf
 returns-2 c =
     let s = c .before .before .before in
-    postings-at _ (now (s .before .before .args .image)) (sym (s .split-into-skips-and-postings .ensures) ∙ c .before .enum-told .given .1)
+    let bs = now (s .before .before .args .image) in
+    postings-at _ bs (sym (s .split-into-skips-and-postings .ensures) ∙ c .before .enum-told .given .1)
 
 pub posting-bytes-spec : {M : Type 1} → statement M
 posting-bytes-spec =

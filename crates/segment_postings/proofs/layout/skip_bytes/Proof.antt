@@ -6,7 +6,7 @@ use Prim.Native.Nat.{ℕ}
 use borrow.Author.Needs.{needs}
 use denote.Ref.{now}
 use Rattle.segment_postings.specs.declared.layout.Split.the-variants.{At}
-use Rattle.segment_postings.specs.Calls.{splitOf}
+use Rattle.segment_postings.specs.Calls.{splitOf, partOf}
 use Rattle.segment_postings.proofs.layout.SplitParts.{split-places, skips-at}
 use Rattle.segment_postings.proofs.layout.skip_bytes.Statement.{statement}
 use Rattle.segment_postings.proofs.layout.skip_bytes.Tie as tie
@@ -41,12 +41,15 @@ slice-aggregate-result : tie.Need-slice-aggregate-result
 slice-aggregate-result c = search needs
 
 returns : tie.Need-returns
+unfolding partOf
 returns c = skips-at _ (image (c .before)) (found (c .before))
 
 returns-2 : tie.Need-returns-2
+unfolding partOf
 returns-2 c =
     let s = c .before .before .before in
-    skips-at _ (now (s .before .before .args .image)) (sym (s .split-into-skips-and-postings .ensures) ∙ c .before .enum-told .given .1)
+    let bs = now (s .before .before .args .image) in
+    skips-at _ bs (sym (s .split-into-skips-and-postings .ensures) ∙ c .before .enum-told .given .1)
 
 pub skip-bytes-spec : {M : Type 1} → statement M
 skip-bytes-spec =

@@ -15,11 +15,11 @@ use Rattle.format.specs.declared.Term.{Term}
 use Rattle.format.specs.Basics.{ok, refused, andThen, TERMINATED, orBefore}
 use Rattle.format.specs.Values.{ids}
 use Rattle.format.proofs.Values.{length-ids, length-restored}
-use Rattle.segment_postings.specs.declared.Found.{Found}
-use Rattle.segment_postings.specs.declared.Loaded.the-variants.{Unpacked, Refused}
+use Rattle.segment_postings.specs.declared.find.Found.{Found}
+use Rattle.segment_postings.specs.declared.load.Loaded.the-variants.{Unpacked, Refused}
 use Rattle.segment_postings.specs.declared.load.Taken.{Taken}
-use Rattle.segment_postings.specs.Cursor.{loadBlock, padded}
-use Rattle.segment_postings.specs.Calls.{counted, BlockLoaded}
+use Rattle.segment_postings.specs.Landing.{loadBlock, padded}
+use Rattle.segment_postings.specs.Private.{counted, BlockLoaded}
 use Rattle.segment_postings.specs.Taken.{takenFreqs, askedFreqs, asked, outcome, ValuesTaken, DocsAsked, FreqsAsked}
 use Rattle.segment_postings.proofs.load.load_block.Statement.{statement}
 use Rattle.segment_postings.proofs.load.load_block.Tie as tie

@@ -1,12 +1,9 @@
 -- `segment_postings::segment_postings::advance` meets its contract: where the core came to, put together, is where the definition comes to.
 -- Assumes nothing.
-use mathlib.Core.Path.{_≡_, refl, ap, _∙_}
+use mathlib.Core.Path.{sym}
 use borrow.Author.Needs.{needs}
-use Rattle.segment_postings.specs.declared.SegmentPostings.{SegmentPostings}
-use Rattle.segment_postings.specs.Cursor.{advanced}
-use Rattle.segment_postings.specs.Calls.{cursorOf}
 use Rattle.segment_postings.proofs.Laws.LandingParts.{same-cursor}
-use Rattle.segment_postings.proofs.Laws.CallsByValue.{advance-in-calls, put-together, put-back}
+use Rattle.segment_postings.proofs.Laws.CallsByValue.{advance-apart, put-together, put-back}
 use Rattle.segment_postings.proofs.segment_postings.advance.Statement.{statement}
 use Rattle.segment_postings.proofs.segment_postings.advance.Tie as tie
 
@@ -31,27 +28,20 @@ enum-known-n c = search needs
 cursor-of-requires-2 : tie.Need-cursor-of-requires-2
 cursor-of-requires-2 c κs = search needs
 
--- the cursor that was taken apart
-apart : (w : tie.After-advance-in) →
-    let h = w .before .before .before in
-    let s = h .before .before .before .before in
-    advanced (cursorOf (h .held-of .result) (s .args .cursor .docs) (s .args .cursor .freqs)) (s .args .image .now) (s .args .term)
-    ≡ advanced (s .args .cursor) (s .args .image .now) (s .args .term)
-apart w =
-    let h = w .before .before .before in
-    let s = h .before .before .before .before in
-    ap (λ (x : SegmentPostings). advanced x (s .args .image .now) (s .args .term)) (same-cursor (s .args .cursor) (h .held-of .ensures))
-
 returns : tie.Need-returns
 returns c =
     let h = c .before .before .before .before .before in
     let w = h .before .before in
-    put-together (advance-in-calls _ _ _ (w .advance-in .ensures)) (h .held .given .1) (c .before .answer-at .ensures) (c .cursor-of .ensures) ∙ apart w
+    let k = w .before .before .before in
+    put-together (advance-apart _ _ (k .before .before .before .before .args .cursor) (k .held-of .ensures) (w .advance-in .ensures)) (h .held .given .1)
+    (c .before .answer-at .ensures) (c .cursor-of .ensures)
 
 returns-2 : tie.Need-returns-2
 returns-2 c =
     let w = c .before .before .before .before in
-    put-back (advance-in-calls _ _ _ (w .advance-in .ensures)) _ (c .before .before .n .given .1) refl (c .cursor-of2 .ensures) ∙ apart w
+    let k = w .before .before .before in
+    put-back (advance-apart _ _ (k .before .before .before .before .args .cursor) (k .held-of .ensures) (w .advance-in .ensures)) _
+    (c .before .before .n .given .1) (sym (same-cursor _ (k .held-of .ensures))) (c .cursor-of2 .ensures)
 
 pub advance-spec : {M : Type 1} → statement M
 advance-spec =

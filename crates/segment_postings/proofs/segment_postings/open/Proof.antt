@@ -1,7 +1,7 @@
 -- `segment_postings::segment_postings::open` meets its contract: where the core came to, put together, is where the definition comes to.
 -- Assumes nothing.
 use mathlib.Core.Path.{sym}
-use Rattle.segment_postings.proofs.Laws.CallsByValue.{SameCall, open-in-calls, put-together}
+use Rattle.segment_postings.proofs.Laws.CallsByValue.{open-in-calls, put-together}
 use borrow.Author.Needs.{needs}
 use Rattle.segment_postings.proofs.segment_postings.open.Statement.{statement}
 use Rattle.segment_postings.proofs.segment_postings.open.Tie as tie

@@ -24,10 +24,10 @@ use Rattle.format.specs.Reading.{Reading, reading}
 use Rattle.format.specs.Values.{ids, countable}
 use Rattle.format.proofs.Opened.{layout-is}
 use Rattle.format.proofs.Outcome.{ask-ok}
-use Rattle.segment_postings.specs.declared.Found.{Found}
+use Rattle.segment_postings.specs.declared.find.Found.{Found}
 use Rattle.segment_postings.specs.declared.load.Taken.{Taken}
-use Rattle.segment_postings.specs.Calls.{FindsFrom, FoundThere}
-use Rattle.segment_postings.specs.Cursor.{findBlock}
+use Rattle.segment_postings.specs.Private.{FindsFrom, FoundThere}
+use Rattle.segment_postings.specs.Landing.{findBlock}
 use Rattle.segment_postings.specs.Taken.{endsOn, takenFreqs, endsBefore, askedDocs, askedFreqs, ValuesTaken}
 use Rattle.segment_postings.proofs.Laws.LandingParts.{searched-to, searched-refused}
 use Rattle.segment_postings.proofs.layout.SplitParts.{laid-out}
@@ -35,7 +35,7 @@ use Rattle.segment_postings.proofs.find.FoundBlock.{found-there}
 use Rattle.segment_postings.proofs.validate.PlaceByPlace.{Ordered, ordered-none, ordered-next, ordered-never, ordered-all, ordered-ends, ends-full}
 use Rattle.segment_postings.proofs.validate.PlaceByPlace.{Counted, freqsRead-most, counted-none, counted-next, counted-never, counted-all}
 use Rattle.segment_postings.proofs.load.BlockQuestions.{docs-broken, docs-fallen, docs-end-wrong, docs-right, freqs-broken, freqs-wrong, freqs-not-last, freqs-right}
-use Rattle.segment_postings.proofs.Admission.WalkReads.{readingAt, loadedAt-none, found-same, full-within}
+use Rattle.segment_postings.proofs.Admission.WalkReads.{walking, walking-from, readingAt, loadedAt-none, found-same, full-within}
 use Rattle.segment_postings.proofs.Admission.WalkReads.{reading-whole, reading-stops, stops-at-docs, stops-at-freqs, goes-on, ends-at-tail}
 use Rattle.segment_postings.proofs.validate.walk.Statement.{statement}
 use Rattle.segment_postings.proofs.validate.walk.Tie as tie
@@ -66,8 +66,8 @@ laid-count t bs e = leb-true _ _ (ask-ok _ _ _ (ask-ok _ _ _ (sym (layout-is t b
 
 -- a turn: where the search starts from
 starts : (c : tie.At-blocks2 Inv-ids μ-ids Inv-counts μ-counts Inv-blocks2 μ-blocks2)
-    → (let a = c .before .before .args in FindsFrom (a .term) (a .layout) (now (a .image)) (c .blocks2 .block) (c .blocks2 .at) (c .blocks2 .block))
-starts c = record { laid-out = c .before .before .pre; block-most = omega arith; inside = c .blocks2 .inv .1; entries-most = omega arith }
+    → (let a = c .before .before .args in FindsFrom (a .term) (a .layout) (now (a .image)) (walking (c .blocks2 .block) (c .blocks2 .at) (c .blocks2 .least)))
+starts c = walking-from _ _ _ (c .before .before .pre) (c .blocks2 .inv .0) (c .blocks2 .inv .1)
 
 -- the block that was found
 module _ (c : tie.After-known-told Inv-ids μ-ids Inv-counts μ-counts Inv-blocks2 μ-blocks2) where
@@ -92,11 +92,11 @@ module _ (c : tie.After-known-told Inv-ids μ-ids Inv-counts μ-counts Inv-block
   abbrev f : Found
   f = c .before .found .given .0 .0
 
-  found : findBlock (l .option) (skipBytes l bs) bs 0 (fullBlocks t - b) b (head .blocks2 .at) least b ≡ ok f
+  found : findBlock (l .option) (skipBytes l bs) bs 0 (fullBlocks t - b) (walking b (head .blocks2 .at) least) ≡ ok f
   found = searched-to _ (sym (c .before .before .before .find-block .ensures) ∙ c .before .found .given .1)
 
   there : FoundThere t bs f
-  there = found-there t l bs 0 b (head .blocks2 .at) least b (starts head) found
+  there = found-there t l bs 0 (walking b (head .blocks2 .at) least) (starts head) found
 
   few : b < 2 ^ 25
   unfolding fullBlocks
@@ -123,7 +123,7 @@ module _ (c : tie.After-take-values Inv-ids μ-ids Inv-counts μ-counts Inv-bloc
   whole = head told .blocks2 .inv .2
 
   stops : {n : ℕ} → askedDocs k (least told) docs ≡ refused n → n ≡ reading (t told) (bs told) .refusal
-  stops h = sym (whole ∙ stops-at-docs _ _ _ _ _ _ _ (found told) taken h)
+  stops h = sym (whole ∙ stops-at-docs _ _ _ _ _ _ (found told) taken h)
 
 -- .. whose numbers of ids are there
 module _ (c : tie.Else1 Inv-ids μ-ids Inv-counts μ-counts Inv-blocks2 μ-blocks2) where
@@ -186,7 +186,7 @@ module _ (c : tie.Else3 Inv-ids μ-ids Inv-counts μ-counts Inv-blocks2 μ-block
       (ends passed-ids ∙ (sym (c .before .ends-right .ensures) ∙ not-false _ (c .if3 .left)))
 
   stops-behind : {n : ℕ} → askedFreqs (k right-of) (freqs right-of) ≡ refused n → n ≡ reading (t (told right-of)) (bs (told right-of)) .refusal
-  stops-behind h = sym (whole right-of ∙ stops-at-freqs _ _ _ _ _ _ _ (found (told right-of)) (taken right-of) docs-passed h)
+  stops-behind h = sym (whole right-of ∙ stops-at-freqs _ _ _ _ _ _ (found (told right-of)) (taken right-of) docs-passed h)
 
 -- .. whose numbers of frequencies are there
 module _ (c : tie.After-freqs-of Inv-ids μ-ids Inv-counts μ-counts Inv-blocks2 μ-blocks2) where
@@ -257,12 +257,12 @@ module _ (c : tie.Else7 Inv-ids μ-ids Inv-counts μ-counts Inv-blocks2 μ-block
 
   next-block : b last-block + 1 ≤ fullBlocks (t last-block)
   next-block =
-      let within : b last-block < fullBlocks (t last-block) = full-within _ _ _ _ _ _ _ (found last-block) (taken (done over)) full in
+      let within : b last-block < fullBlocks (t last-block) = full-within _ _ _ _ _ _ (found last-block) (taken (done over)) full in
       omega arith
 
   next-at : head last-block .blocks2 .at + blockSize (f last-block .info) ≤ length (bs last-block)
   next-at =
-      let here : f last-block .at ≡ head last-block .blocks2 .at = found-same _ _ _ _ _ _ _ (found last-block) .1 in
+      let here : f last-block .at ≡ head last-block .blocks2 .at = found-same _ _ _ _ _ _ (found last-block) .1 in
       omega (arith, there last-block .bytes)
 
   next-least : behind (passed-ids (docs-of over)) ≡ k (done over) .«last_doc» + 1
@@ -368,7 +368,7 @@ blocks2-again : tie.Need-blocks2-again Inv-ids μ-ids Inv-counts μ-counts Inv-b
 blocks2-again c =
     let over = over (c .before) in
     let took = done over in
-    let on = goes-on _ _ _ _ _ _ _ (found (told took)) (taken took) (docs-passed (docs-of over)) (freqs-passed over) (full (c .before))
+    let on = goes-on _ _ _ _ _ _ (found (told took)) (taken took) (docs-passed (docs-of over)) (freqs-passed over) (full (c .before))
     (c .block-size .ensures) (next-least (c .before)) in
     (next-block (c .before), rw (c .block-size .ensures) (next-at (c .before)), whole took ∙ on)
 
@@ -376,7 +376,7 @@ returns : tie.Need-returns Inv-ids μ-ids Inv-counts μ-counts Inv-blocks2 μ-bl
 returns c =
     let head = c .before .before .before .before in
     let none = searched-refused _ (sym (c .before .before .before .find-block .ensures) ∙ c .before .number .given .1) in
-    sym (head .blocks2 .inv .2 ∙ reading-stops _ _ _ _ _ _ _ (loadedAt-none _ _ _ _ _ _ _ none))
+    sym (head .blocks2 .inv .2 ∙ reading-stops _ _ _ _ _ _ (loadedAt-none _ _ _ _ _ _ none))
 
 returns-2 : tie.Need-returns-2 Inv-ids μ-ids Inv-counts μ-counts Inv-blocks2 μ-blocks2
 returns-2 c = stops (c .before .before) (docs-broken _ _ _ (not-true _ (c .if1 .taken)))
@@ -412,7 +412,7 @@ returns-8 : tie.Need-returns-8 Inv-ids μ-ids Inv-counts μ-counts Inv-blocks2 �
 returns-8 c =
     let passed = c .before .before in
     let took = done passed in
-    let end = ends-at-tail _ _ _ _ _ _ _ (found (told took)) (taken took) (docs-passed (docs-of passed)) (freqs-passed passed) (not-true _ (c .if7 .taken)) in
+    let end = ends-at-tail _ _ _ _ _ _ (found (told took)) (taken took) (docs-passed (docs-of passed)) (freqs-passed passed) (not-true _ (c .if7 .taken)) in
     sym (whole took ∙ end)
 
 pub walk-spec : {M : Type 1} → statement M

@@ -7,6 +7,7 @@ use Prim.Native.Nat.{_+_, _-_, _^_, _<_}
 use native.Mathlib.Omega.{arith}
 use Rattle.format.specs.Layout.{fullBlocks}
 use Rattle.segment_postings.proofs.Admission.LandingReads.{BlockHeld, block-held}
+use Rattle.segment_postings.proofs.Admission.WalkReads.{walking-from}
 use Rattle.segment_postings.proofs.Laws.LandingParts.{reached-at, reached-nowhere}
 use Rattle.segment_postings.proofs.whole.ReadLoop.{Copied, copied-none, never-refused, docs-room, freqs-room}
 use Rattle.segment_postings.proofs.whole.ReadLoop.{docs-kept, freqs-kept, copy-goes-on, copy-ends}
@@ -35,15 +36,8 @@ few p = omega (arith, p .loop .inv .block-most)
 land-requires : tie.Need-land-requires Inv-loop μ-loop
 land-requires c κs =
     let p = c .before .before in
-    let s = p .before .before .before .before .before in (
-      record {
-        laid-out = s .pre .laid-out;
-        block-most = omega (arith, p .loop .inv .block-most);
-        inside = p .loop .inv .inside;
-        entries-most = omega arith;
-      },
-      few p,
-    )
+    let s = p .before .before .before .before .before in
+    (walking-from _ _ _ (s .pre .laid-out) (p .loop .inv .block-most) (p .loop .inv .inside), few p)
 
 enum-known-held : tie.Need-enum-known-held Inv-loop μ-loop
 enum-known-held c = search needs
@@ -54,7 +48,7 @@ held : (c : tie.After-held Inv-loop μ-loop) →
     let p = a .before .before .before in
     let s = p .before .before .before .before .before in
     BlockHeld (s .args .term) (s .args .layout) (s .args .image .now) (p .loop .block) (p .loop .at) (p .loop .least) (c .held .given .0 .0)
-    (a .land .last .1 .1 .1 .1 .1 .1 .1 .1 .1 .0) (a .land .last .1 .1 .1 .1 .1 .1 .1 .1 .1 .1 .0)
+    (a .land .last .1 .1 .1 .1 .1 .0) (a .land .last .1 .1 .1 .1 .1 .1 .0)
 held c =
     let a = c .before .before in
     let p = a .before .before .before in

@@ -1,0 +1,66 @@
+-- What the private functions below the calls want and leave.
+-- Assumes nothing.
+use mathlib.Core.Path.{_≡_}
+use mathlib.Core.List.{List}
+use Prim.Native.Nat.{ℕ, _+_, _≤_}
+use lib.ListN.{length}
+use Rattle.format.specs.declared.Layout.{Layout}
+use Rattle.format.specs.declared.Term.{Term}
+use Rattle.format.specs.Basics.{Outcome, ok, refused, andThen, orBefore, TERMINATED}
+use Rattle.format.specs.SkipEntry.{blockSize}
+use Rattle.format.specs.Layout.{layout, fullBlocks}
+use Rattle.format.specs.Reading.{Block}
+use Rattle.segment_postings.specs.declared.SegmentPostings.{SegmentPostings}
+use Rattle.segment_postings.specs.declared.find.Found.{Found}
+use Rattle.segment_postings.specs.declared.find.Start.{Start}
+use Rattle.segment_postings.specs.declared.find.Search.{Search}
+use Rattle.segment_postings.specs.declared.find.Search.the-variants as search-as
+use Rattle.segment_postings.specs.declared.layout.Laid.{Laid}
+use Rattle.segment_postings.specs.declared.layout.Laid.the-variants as laid-as
+use Rattle.segment_postings.specs.declared.load.Loaded.{Loaded}
+use Rattle.segment_postings.specs.declared.load.Loaded.the-variants as loaded-as
+use Rattle.segment_postings.specs.Landing.{loadBlock, padded, holding}
+
+-- ---- the layout
+
+unfoldable pub laid : Outcome Layout → Laid
+laid (ok l) = laid-as.At l
+laid (refused n) = laid-as.Refused n
+
+-- ---- the block that is found
+
+-- what a search starts from: the image's own layout, so that the entry of every full block lies within the skip bytes; a block, at
+-- most the tail; where its bytes begin; and entries read, at most one for each block before it, so that no count wraps
+pub record FindsFrom (t : Term) (l : Layout) (bs : List ℕ) (s : Start) : Type 0 where
+  pub laid-out : layout t bs ≡ ok l
+  pub block-most : s .block ≤ fullBlocks t
+  pub inside : s .at ≤ length bs
+  pub entries-most : s .entries ≤ s .block
+
+unfoldable pub searched : Outcome Found → Search
+searched (ok f) = search-as.To f
+searched (refused n) = search-as.Refused n
+
+-- ---- .. and unpacked
+
+-- a block that was found: its bytes are there
+pub record FoundThere (t : Term) (bs : List ℕ) (f : Found) : Type 0 where
+  pub inside : f .at ≤ length bs
+  pub doc-width : f .info .«doc_width» ≤ 31
+  pub freq-width : f .info .«freq_width» ≤ 32
+  pub bytes : f .at + blockSize (f .info) ≤ length bs
+
+unfoldable pub counted : ℕ → Outcome Block → Loaded
+counted unpacked (ok b) = loaded-as.Unpacked (unpacked + 1)
+counted unpacked (refused n) = loaded-as.Refused n
+
+-- a block's documents and frequencies in two lent arrays of 128 places; a refusal leaves them as they were
+pub record BlockLoaded (t : Term) (l : Layout) (bs : List ℕ) (f : Found) (unpacked : ℕ) (docs freqs docs′ freqs′ : List ℕ) (r : Loaded) : Type 0 where
+  pub answer : r ≡ counted unpacked (loadBlock t l bs f)
+  pub docs-after : docs′ ≡ orBefore (λ b. padded TERMINATED (b .docs)) (loadBlock t l bs f) docs
+  pub freqs-after : freqs′ ≡ orBefore (λ b. padded 1 (b .freqs)) (loadBlock t l bs f) freqs
+
+-- the cursor at the first place of a block that was found
+unfoldable pub loaded : Term → Layout → List ℕ → Found → ℕ → Outcome SegmentPostings
+unfolding andThen loadBlock holding
+loaded t l bs f unpacked = andThen (loadBlock t l bs f) λ block. ok (holding f unpacked block)
