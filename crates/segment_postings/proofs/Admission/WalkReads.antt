@@ -86,7 +86,7 @@ module _ (t : Term) (l : Layout) (bs : List ℕ) where
           let size : ℕ = entrySize (l .option) in
           let left : fullBlocks t - b ≡ suc (fullBlocks t - (b + 1)) = omega arith in
           let next : size * (b + 1) ≡ size * b + size = rw (mul-add, mul-one) in
-          rw (left, readFrom-suc, entry-same, drop-drop, drop-drop, next)
+          rw (left, readFrom-suc, entry-same, drop-drop size (size * b) (skipBytes l bs), drop-drop (blockSize e) at bs, next)
 
     -- ---- the tail
 

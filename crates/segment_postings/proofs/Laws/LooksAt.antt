@@ -81,20 +81,20 @@ module _ (c : SegmentPostings) (t : Term) (l : Layout) (bs bs′ : List ℕ) (la
   pub lands-on-one : (target : ℕ) → SameThere c t l bs bs′ target → leaving c bs t target ≡ leaving c bs′ t target
   unfolding andThen
   lands-on-one target there =
-      rw (leaving-is, leaving-is c bs′, laid, same-layout t l bs bs′ (s .long) (s .front) laid)
+      rw (leaving-is c bs t target, leaving-is c bs′ t target, laid, same-layout t l bs bs′ (s .long) (s .front) laid)
       (rw (landing-looks-at t l bs bs′ target (startBehind c) s there))
 
   -- .. by a step, to the first block behind it whose last id is at least 0: the next
   pub step-lands-on-one : SameThere c t l bs bs′ 0 → advanced c bs t ≡ advanced c bs′ t
   step-lands-on-one there =
-      rw (advanced-is, advanced-is c bs′, stepping-is, stepping-is c bs′, same-bounds c t bs bs′ (s .long), lands-on-one 0 there)
+      rw (advanced-is c bs t, advanced-is c bs′ t, stepping-is c bs t, stepping-is c bs′ t, same-bounds c t bs bs′ (s .long), lands-on-one 0 there)
 
   -- .. or by a seek
   pub seek-lands-on-one : (target : ℕ) → SameThere c t l bs bs′ target → sought c bs t target ≡ sought c bs′ t target
   unfolding sought
   seek-lands-on-one target there =
-      rw (seeking-is, seeking-is c bs′, same-bounds c t bs bs′ (s .long))
-      (rw (behind-is c bs, behind-is c bs′ t target, lands-on-one target there))
+      rw (seeking-is c bs t target, seeking-is c bs′ t target, same-bounds c t bs bs′ (s .long))
+      (rw (behind-is c bs t target, behind-is c bs′ t target, lands-on-one target there))
 
 -- ---- opening
 
