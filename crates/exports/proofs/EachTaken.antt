@@ -19,9 +19,10 @@ use Rattle.serializer.specs.declared.Step.{Step}
 use Rattle.serializer.specs.declared.Written.the-variants.{Refused}
 use Rattle.serializer.specs.Writer.{Areas, fresh, taking, takeAll, listing, announcing}
 use Rattle.serializer.specs.Calls.{answered, Took, Closed, ListedAs}
-use Rattle.serializer.proofs.Laws.WholeList.{HasRoom, whole-list-writes, announced-writes}
+use Rattle.serializer.specs.Lists.{HasRoom, WritesList}
+use Rattle.serializer.proofs.Laws.WholeList.{whole-list-writes, announced-writes}
 use Rattle.serializer.proofs.SingleCalls.AllDocuments.{takeAll-cons}
-use Rattle.serializer.proofs.SingleCalls.WritesList.{WritesList, single-calls-write}
+use Rattle.serializer.proofs.SingleCalls.WritesList.{single-calls-write}
 use Rattle.postings.specs.WriterCalls.{areasOf}
 use Rattle.postings.proofs.SingleCalls.{settled-ok}
 use Rattle.exports.specs.Exports.{marked, coded, LeftCoded}

@@ -17,7 +17,7 @@ use Rattle.format.specs.Basics.{ok, ask, andThen, lastOf, TERMINATED, Al
 use Rattle.format.specs.Bitpacking.{pack, unpack, width}
 use Rattle.format.specs.Values.{gaps, reduced, restored}
 use Rattle.format.specs.SkipEntry.{hasFreq, entrySize, readEntry, blockSize, entryFits}
-use Rattle.format.specs.Written.{onlyIf, Parts, withBlock}
+use Rattle.format.specs.Written.{onlyIf, Parts}
 use Rattle.format.specs.Reading.{Block, fullDocs, fullFreqs, before, entryBlock, readFrom}
 use Rattle.format.specs.ReadsBack.{readFreqs}
 use Rattle.format.specs.Accepted.{Accepted}
@@ -26,7 +26,8 @@ use Rattle.format.proofs.Bitpacking.{pack-length, pack-reads-back, widt
 use Rattle.format.proofs.Values.{length-gaps, length-reduced, gaps-read-back, gaps-below, freqs-read-back}
 use Rattle.format.proofs.Values.{reduced-below, countable-below, rising-last}
 use Rattle.format.proofs.SkipEntry.{entry-length, entry-reads-back}
-use Rattle.format.proofs.Opened.{withBlock-skips, withBlock-postings, fullDocs-is, fullFreqs-unread, fullFreqs-read}
+use Rattle.format.proofs.ImageParts.{withBlock, withBlock-skips, withBlock-postings}
+use Rattle.format.proofs.Opened.{fullDocs-is, fullFreqs-unread, fullFreqs-read}
 use Rattle.format.proofs.Opened.{fullBlock-is, entryBlock-is, readFrom-suc}
 
 -- values below 2 ^ 32 unpack at their width

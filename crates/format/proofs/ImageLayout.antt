@@ -17,14 +17,15 @@ use Rattle.format.specs.declared.VInt.the-variants.{Number}
 use Rattle.format.specs.Basics.{ok, ask, choose, lastOf, TERMINATED}
 use Rattle.format.specs.Vint.{vint}
 use Rattle.format.specs.SkipEntry.{entrySize}
-use Rattle.format.specs.Written.{Parts, parts, headed}
+use Rattle.format.specs.Written.{Parts}
 use Rattle.format.specs.Accepted.{keptIn}
 use Rattle.format.specs.declared.Term.{Term}
 use Rattle.format.specs.Layout.{fullBlocks, split, layout, skipBytes, postingBytes}
 use Rattle.format.specs.declared.Layout.{Layout}
 use Rattle.format.proofs.Vints.{skip-length-reads-back}
 use Rattle.format.proofs.SkipEntry.{entry-length}
-use Rattle.format.proofs.Opened.{withBlock-skips, parts-zero, parts-suc, headed-suc, sized-is, split-number, layout-is}
+use Rattle.format.proofs.ImageParts.{parts, headed, withBlock-skips, parts-zero, parts-suc, headed-suc}
+use Rattle.format.proofs.Opened.{sized-is, split-number, layout-is}
 
 -- an entry for each full block
 pub skips-length : (option : IndexRecordOption) (n least : ℕ) (ds fs : List ℕ)

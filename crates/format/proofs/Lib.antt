@@ -10,6 +10,7 @@ pub mod FullBlock
 pub mod Gaps
 pub mod IdsBelow
 pub mod ImageLayout
+pub mod ImageParts
 pub mod Lanes
 pub mod Lists
 pub mod LooksAt

@@ -2,10 +2,10 @@
 -- is made of, down to 128 packed values, and its goals are no longer readable; rewritten by these they keep their names.
 -- Assumes nothing.
 use mathlib.Core.Bool.{Bool, true, false, _&&_ as and}
-use mathlib.Core.List.{List, [], _++_}
+use mathlib.Core.List.{List}
 use mathlib.Core.Path.{_≡_, refl}
-use Prim.Native.Nat.{ℕ, zero, suc, _+_, _-_, _*_, _/_}
-use lib.ListN.{length, take, drop, replicate}
+use Prim.Native.Nat.{ℕ, zero, suc, _+_, _-_, _*_}
+use lib.ListN.{length, drop, replicate}
 use lib.Dec.{eqb, leb, ltb}
 use Rattle.format.specs.declared.IndexRecordOption.{IndexRecordOption}
 use Rattle.format.specs.declared.BlockInfo.{BlockInfo}
@@ -13,61 +13,16 @@ use Rattle.format.specs.declared.VInt.the-variants.{Number, Malformed}
 use Rattle.format.specs.Basics.{ok, refused, andThen, ask, choose, lastOf, TERMINATED}
 use Rattle.format.specs.Refusal.{unknownMode, countTooLarge, skipLengthBroken, skipLengthWrong, entryBroken}
 use Rattle.format.specs.Refusal.{docsNotRising, freqOutOfRange, numberBroken, bytesLeft}
-use Rattle.format.specs.Vint.{vint, vints, skipLength, tailNumbers}
-use Rattle.format.specs.Bitpacking.{pack, unpack, width}
-use Rattle.format.specs.Values.{gaps, ids, reduced, restored, rising, countable}
-use Rattle.format.specs.SkipEntry.{hasFreq, entrySize, readEntry, writeEntry, blockSize, entryFits}
-use Rattle.format.specs.Written.{onlyIf, Parts, withBlock, parts, headed, image}
+use Rattle.format.specs.Vint.{skipLength, tailNumbers}
+use Rattle.format.specs.Bitpacking.{unpack}
+use Rattle.format.specs.Values.{ids, restored, rising, countable}
+use Rattle.format.specs.SkipEntry.{hasFreq, entrySize, readEntry, blockSize, entryFits}
 use Rattle.format.specs.Accepted.{keptIn}
 use Rattle.format.specs.declared.Term.{Term}
 use Rattle.format.specs.Layout.{fullBlocks, tailLength, sized, split, layout, skipBytes, postingBytes}
 use Rattle.format.specs.declared.Layout.{Layout}
 use Rattle.format.specs.Reading.{fullDocs, fullFreqs, fullBlock, numbers, ended, tailFreqs, tailHasFreq, tailBlock}
 use Rattle.format.specs.Reading.{nothing, before, entryBlock, readFrom, readAll, reading, soundness}
-
--- ---- written
-
-pub withBlock-skips : (option : IndexRecordOption) (least : ℕ) (ds fs : List ℕ) (rest : Parts)
-    → withBlock option least ds fs rest .skips
-    ≡ (let dv : List ℕ = gaps true least ds in
-    let fv : List ℕ = onlyIf (hasFreq option) (reduced true fs) in
-    writeEntry option (lastOf 0 ds) (width dv) (width fv) ++ rest .skips)
-unfolding withBlock
-withBlock-skips option least ds fs rest = refl
-
-pub withBlock-postings : (option : IndexRecordOption) (least : ℕ) (ds fs : List ℕ) (rest : Parts)
-    → withBlock option least ds fs rest .postings
-    ≡ (let dv : List ℕ = gaps true least ds in
-    let fv : List ℕ = onlyIf (hasFreq option) (reduced true fs) in
-    pack (width dv) dv ++ (pack (width fv) fv ++ rest .postings))
-unfolding withBlock
-withBlock-postings option least ds fs rest = refl
-
-pub parts-zero : (option : IndexRecordOption) (least : ℕ) (ds fs : List ℕ)
-    → parts option zero least ds fs
-    ≡ record { skips = []; postings = vints (gaps false least ds) ++ onlyIf (hasFreq option) (vints fs) }
-unfolding parts
-parts-zero option least ds fs = refl
-
-pub parts-suc : (option : IndexRecordOption) (n least : ℕ) (ds fs : List ℕ)
-    → parts option (suc n) least ds fs
-    ≡ withBlock option least (take 128 ds) (take 128 fs)
-    (parts option n (lastOf 0 (take 128 ds) + 1) (drop 128 ds) (drop 128 fs))
-unfolding parts
-parts-suc option n least ds fs = refl
-
-pub headed-zero : (p : Parts) → headed zero p ≡ p .postings
-unfolding headed
-headed-zero p = refl
-
-pub headed-suc : (n : ℕ) (p : Parts) → headed (suc n) p ≡ vint (length (p .skips)) ++ (p .skips ++ p .postings)
-unfolding headed
-headed-suc n p = refl
-
-pub image-is : (option : IndexRecordOption) (ds fs : List ℕ)
-    → image option ds fs ≡ headed (length ds / 128) (parts option (length ds / 128) 0 ds fs)
-unfolding image
-image-is option ds fs = refl
 
 -- ---- laid out
 

@@ -13,13 +13,13 @@ use lib.ListN.{length, take, take-append-drop, length-take, length-drop}
 use Rattle.format.specs.declared.IndexRecordOption.{IndexRecordOption}
 use Rattle.format.specs.Basics.{ok, AllBelow}
 use Rattle.format.specs.SkipEntry.{hasFreq, entrySize}
-use Rattle.format.specs.Written.{Parts, parts, headed}
+use Rattle.format.specs.Written.{Parts}
 use Rattle.format.specs.Accepted.{keptIn, written, Accepted}
 use Rattle.format.specs.declared.Term.{Term}
 use Rattle.format.specs.Layout.{fullBlocks, tailLength}
 use Rattle.format.specs.Reading.{Block, Reading, nothing, before, readFrom, reading, soundness, docsOf, freqsOf}
 use Rattle.format.specs.ReadsBack.{readFreqs, ReadsBack}
-use Rattle.format.proofs.Opened.{parts-zero, parts-suc, headed-zero, image-is}
+use Rattle.format.proofs.ImageParts.{parts, headed, parts-zero, parts-suc, headed-zero, image-is}
 use Rattle.format.proofs.Opened.{readFrom-zero, readAll-ok, reading-is, soundness-is}
 use Rattle.format.proofs.Accepted.{accepted-take, accepted-drop, accepted-length, written-ok}
 use Rattle.format.proofs.ReadFreqs.{readFreqs-append}

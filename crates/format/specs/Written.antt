@@ -3,48 +3,87 @@
 -- Assumes nothing.
 use mathlib.Core.Bool.{Bool, true, false}
 use mathlib.Core.List.{List, [], _++_}
-use Prim.Native.Nat.{ℕ, zero, suc, _+_, _/_}
+use Prim.Native.Nat.{ℕ, zero, suc, _+_, _*_, _/_}
 use lib.ListN.{length, take, drop}
 use Rattle.format.specs.declared.IndexRecordOption.{IndexRecordOption}
 use Rattle.format.specs.Basics.{lastOf}
 use Rattle.format.specs.Vint.{vint, vints}
 use Rattle.format.specs.Bitpacking.{pack, width}
-use Rattle.format.specs.Values.{gaps, reduced}
+use Rattle.format.specs.Values.{gaps, gapsFrom, reduced}
 use Rattle.format.specs.SkipEntry.{hasFreq, writeEntry}
 
 unfoldable pub onlyIf : Bool → List ℕ → List ℕ
 onlyIf true l = l
 onlyIf false l = []
 
+-- ---- a full block
+
+-- the values of its documents, and of its frequencies where they are kept
+unfoldable pub docValues : ℕ → List ℕ → List ℕ
+unfolding gaps
+docValues least ds = gaps true least ds
+
+unfoldable pub freqValues : IndexRecordOption → List ℕ → List ℕ
+unfolding onlyIf hasFreq reduced
+freqValues option fs = onlyIf (hasFreq option) (reduced true fs)
+
+-- its skip entry
+unfoldable pub entryOf : IndexRecordOption → ℕ → List ℕ → List ℕ → List ℕ
+unfolding writeEntry lastOf width docValues freqValues
+entryOf option least ds fs = writeEntry option (lastOf 0 ds) (width (docValues least ds)) (width (freqValues option fs))
+
+-- its bytes: documents before frequencies
+unfoldable pub blockOf : IndexRecordOption → ℕ → List ℕ → List ℕ → List ℕ
+unfolding pack width docValues freqValues
+blockOf option least ds fs =
+    pack (width (docValues least ds)) (docValues least ds) ++ pack (width (freqValues option fs)) (freqValues option fs)
+
+-- ---- n full blocks: the bytes of their entries, and their own
+
 pub record Parts : Type 0 where
   pub skips : List ℕ
   pub postings : List ℕ
 
--- a full block in front of what follows it
-unfoldable pub withBlock : IndexRecordOption → ℕ → List ℕ → List ℕ → Parts → Parts
-unfolding writeEntry gaps reduced hasFreq onlyIf lastOf pack width
-withBlock option least ds fs rest =
-    let dv : List ℕ = gaps true least ds in
-    let fv : List ℕ = onlyIf (hasFreq option) (reduced true fs) in
+unfoldable pub blocksOf : IndexRecordOption → ℕ → ℕ → List ℕ → List ℕ → Parts
+unfolding entryOf blockOf lastOf
+blocksOf option zero least ds fs = record { skips = []; postings = [] }
+blocksOf option (suc n) least ds fs =
+    let rest : Parts = blocksOf option n (lastOf 0 (take 128 ds) + 1) (drop 128 ds) (drop 128 fs) in
     record {
-      skips = writeEntry option (lastOf 0 ds) (width dv) (width fv) ++ rest .skips;
-      postings = pack (width dv) dv ++ (pack (width fv) fv ++ rest .postings);
+      skips = entryOf option least (take 128 ds) (take 128 fs) ++ rest .skips;
+      postings = blockOf option least (take 128 ds) (take 128 fs) ++ rest .postings;
     }
 
--- n full blocks and the tail
-unfoldable pub parts : IndexRecordOption → ℕ → ℕ → List ℕ → List ℕ → Parts
-unfolding withBlock vints gaps hasFreq onlyIf lastOf
-parts option zero least ds fs = record { skips = []; postings = vints (gaps false least ds) ++ onlyIf (hasFreq option) (vints fs) }
-parts option (suc n) least ds fs =
-    withBlock option least (take 128 ds) (take 128 fs)
-    (parts option n (lastOf 0 (take 128 ds) + 1) (drop 128 ds) (drop 128 fs))
+-- ---- the image
 
--- the skip length stands only where there is a full block
-unfoldable pub headed : ℕ → Parts → List ℕ
+-- the skip length and the entries, where there is a full block
+unfoldable pub headOf : ℕ → List ℕ → List ℕ
 unfolding vint
-headed zero p = p .postings
-headed (suc n) p = vint (length (p .skips)) ++ (p .skips ++ p .postings)
+headOf zero skips = []
+headOf (suc n) skips = vint (length skips) ++ skips
+
+-- the tail behind the id `offset`, 0 where there is none before it: its id differences, then its frequencies unreduced
+unfoldable pub tailOf : IndexRecordOption → ℕ → List ℕ → List ℕ → List ℕ
+unfolding vints gapsFrom onlyIf hasFreq
+tailOf option offset ds fs = vints (gapsFrom 0 offset ds) ++ onlyIf (hasFreq option) (vints fs)
+
+-- n full blocks, given as the bytes of their entries and their own, and a tail
+unfoldable pub imageWith : ℕ → List ℕ → List ℕ → IndexRecordOption → ℕ → List ℕ → List ℕ → List ℕ
+unfolding headOf tailOf
+imageWith n skips postings option offset ds fs = headOf n skips ++ (postings ++ tailOf option offset ds fs)
+
+-- how many documents the full blocks of a list have
+abbrev pub inBlocks : List ℕ → ℕ
+inBlocks ds = 128 * (length ds / 128)
+
+-- a list, given the bytes of its full blocks: the documents behind them are its tail
+unfoldable pub imageFrom : IndexRecordOption → List ℕ → List ℕ → List ℕ → List ℕ → List ℕ
+unfolding imageWith lastOf
+imageFrom option ds fs skips postings =
+    imageWith (length ds / 128) skips postings option (lastOf 0 (take (inBlocks ds) ds)) (drop (inBlocks ds) ds) (drop (inBlocks ds) fs)
 
 unfoldable pub image : IndexRecordOption → List ℕ → List ℕ → List ℕ
-unfolding headed parts
-image option ds fs = headed (length ds / 128) (parts option (length ds / 128) 0 ds fs)
+unfolding imageFrom blocksOf
+image option ds fs =
+    let blocks : Parts = blocksOf option (length ds / 128) 0 ds fs in
+    imageFrom option ds fs (blocks .skips) (blocks .postings)

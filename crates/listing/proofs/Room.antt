@@ -11,7 +11,7 @@ use Rattle.format.specs.Basics.{ok, choose, AllBelow}
 use Rattle.format.specs.Accepted.{keptIn, written}
 use Rattle.serializer.specs.EnoughRoom.{skipsEnough, postingsEnough, outputEnough, Enough}
 use Rattle.serializer.proofs.Laws.EnoughRoom.{enough-room}
-use Rattle.serializer.proofs.Laws.WholeList.{HasRoom}
+use Rattle.serializer.specs.Lists.{HasRoom}
 
 kept : keptIn 1 true ≡ WithFreqs
 unfolding keptIn choose

@@ -5,7 +5,7 @@
 -- Each theorem takes what a call's contract ensures. That each call ends is the checker's verdict over every function. The numbers of
 -- the refusals are those of the definitions that the contracts cite. For single calls of the writer see SingleCalls.antt.
 -- Assumes nothing.
-use mathlib.Core.Bool.{Bool, true, false, not, _&&_ as and, _||_ as or, and-eq-true-iff}
+use mathlib.Core.Bool.{Bool, true, not, _&&_ as and, _||_ as or, and-eq-true-iff}
 use mathlib.Core.List.{List, [], _∷_}
 use mathlib.Core.Logic.{_↔_}
 use mathlib.Core.Path.{_≡_, refl, sym, _∙_}
@@ -22,6 +22,7 @@ use Rattle.format.specs.Written.{image}
 use Rattle.format.specs.Accepted.{keptIn, begin, takeDoc, takeDocs, written, Accepted}
 use Rattle.format.specs.Reading.{soundness}
 use Rattle.format.proofs.Accepted.{written-ok}
+use Rattle.format.proofs.Choice.{granted}
 use Rattle.serializer.specs.declared.Accepted.the-variants.{Refused as No}
 use Rattle.serializer.specs.declared.ClosedTerm.{ClosedTerm}
 use Rattle.serializer.specs.declared.PostingsSerializer.{PostingsSerializer}
@@ -30,15 +31,12 @@ use Rattle.serializer.specs.declared.Written.{Written}
 use Rattle.serializer.specs.declared.Written.the-variants.{Bytes, Refused}
 use Rattle.serializer.specs.Writer.{Areas, listing, closing}
 use Rattle.serializer.specs.Calls.{accepted, answered, Settled, Closed, Listed}
-use Rattle.serializer.proofs.Laws.WholeList.{HasRoom, whole-list-writes}
+use Rattle.serializer.specs.Lists.{HasRoom}
+use Rattle.serializer.proofs.Laws.WholeList.{whole-list-writes}
 use Rattle.segment_postings.specs.Admission.{Meets, MeetsNone}
 use Rattle.segment_postings.proofs.Admission.AdmissionExact.{admission-admits, admission-refuses}
 
 -- ---- accepted lists
-
-granted : (a b : Bool) → (a ≡ true → b ≡ true) → or (not a) b ≡ true
-granted true b h = h refl
-granted false b h = refl
 
 taken : (option : IndexRecordOption) (least d f : ℕ) (ds fs : List ℕ) → Accepted option least (d ∷ ds) (f ∷ fs)
     → (takeDoc option least d f ≡ ok (d + 1)) × Accepted option (d + 1) ds fs

@@ -1,26 +1,22 @@
 -- The outcomes of `Writer.antt` as the contracts cite them: answer, state and every lent byte.
 -- Assumes nothing.
 use mathlib.Core.Path.{_≡_}
-use mathlib.Core.Bool.{Bool, _&&_ as and}
-use mathlib.Core.List.{List, [], _∷_, _++_}
-use Prim.Native.Nat.{ℕ, _+_, _/_}
+use mathlib.Core.Bool.{Bool}
+use mathlib.Core.List.{List, [], _∷_}
+use Prim.Native.Nat.{ℕ, _/_}
 use lib.ListN.{length}
 use Rattle.format.specs.declared.IndexRecordOption.{IndexRecordOption}
-use Rattle.format.specs.Basics.{Outcome, ok, refused, choose, putAt, fitsAt, orBefore}
-use Rattle.format.specs.Refusal.{noRoom}
-use Rattle.format.specs.Written.{headed}
+use Rattle.format.specs.Basics.{Outcome, ok, refused, putAt, orBefore}
+use Rattle.format.specs.Written.{blocksOf}
 use Rattle.format.specs.Accepted.{keptIn}
 use Rattle.serializer.specs.declared.PostingsSerializer.{PostingsSerializer}
 use Rattle.serializer.specs.declared.Accepted.{Accepted}
 use Rattle.serializer.specs.declared.Accepted.the-variants.{Yes, Refused as No}
 use Rattle.serializer.specs.declared.ClosedTerm.{ClosedTerm}
-use Rattle.serializer.specs.declared.Placed.{Placed}
-use Rattle.serializer.specs.declared.Placed.the-variants.{At, NoRoom}
 use Rattle.serializer.specs.declared.Step.{Step}
 use Rattle.serializer.specs.declared.Written.{Written}
 use Rattle.serializer.specs.declared.Written.the-variants.{Bytes, Refused}
-use Rattle.serializer.specs.Pieces.{tailWith}
-use Rattle.serializer.specs.Writer.{Areas, fresh, begun, taking, closing, listing, announcing, blocksOf, entryOf, blockOf}
+use Rattle.serializer.specs.Writer.{Areas, fresh, begun, taking, closing, listing, announcing}
 
 -- what an outcome answers: of a call that gives no bytes ..
 unfoldable pub accepted : {A : Type 0} → Outcome A → Accepted
@@ -80,29 +76,3 @@ Listed mode recording ds fs skips postings output skips′ postings′ output′
 abbrev pub ListedAs : ℕ → Bool → ℕ → (ds fs skips postings output skips′ postings′ output′ : List ℕ) → Written → Type 0
 ListedAs mode recording announced ds fs skips postings output skips′ postings′ output′ r =
     ListLeft (announcing mode recording announced ds fs skips postings output) (keptIn mode recording) ds fs skips postings output skips′ postings′ output′ r
-
--- ---- the private functions below them
-
--- a full block and its entry, into their areas from two places on, if both fit
-unfoldable pub blockFits : IndexRecordOption → ℕ → List ℕ → List ℕ → ℕ → ℕ → List ℕ → List ℕ → Bool
-unfolding entryOf blockOf fitsAt
-blockFits option least ds fs p q skips postings = and (fitsAt p (entryOf option least ds fs) skips) (fitsAt q (blockOf option least ds fs) postings)
-
-pub record BlockWritten (option : IndexRecordOption) (least : ℕ) (ds fs : List ℕ) (p q : ℕ) (skips postings skips′ postings′ : List ℕ) (r : Placed) : Type 0 where
-  pub placed :
-      r
-      ≡ choose (blockFits option least ds fs p q skips postings)
-      (λ _. At (p + length (entryOf option least ds fs)) (q + length (blockOf option least ds fs))) (λ _. NoRoom)
-  pub skips-after : skips′ ≡ choose (blockFits option least ds fs p q skips postings) (λ _. putAt p (entryOf option least ds fs) skips) (λ _. skips)
-  pub postings-after :
-      postings′ ≡ choose (blockFits option least ds fs p q skips postings) (λ _. putAt q (blockOf option least ds fs) postings) (λ _. postings)
-
--- the image of n full blocks, given as the bytes of their entries and their own, and a tail
-unfoldable pub imageWith : ℕ → List ℕ → List ℕ → IndexRecordOption → ℕ → List ℕ → List ℕ → List ℕ
-unfolding headed tailWith
-imageWith n skips postings option offset ds fs = headed n (record { skips = skips; postings = postings ++ tailWith option offset ds fs })
-
--- .. at the front of the output, if it fits
-pub record ImagePut (image output output′ : List ℕ) (r : Written) : Type 0 where
-  pub answer : r ≡ choose (fitsAt 0 image output) (λ _. Bytes (length image)) (λ _. Refused noRoom)
-  pub output-after : output′ ≡ putAt 0 image output

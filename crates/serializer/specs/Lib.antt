@@ -1,5 +1,6 @@
 pub mod Calls
 pub mod EnoughRoom
+pub mod Lists
 pub mod Pieces
 pub mod Whole
 pub mod Writer

@@ -1,52 +1,64 @@
--- The pieces that a block's and an image's writing and the taking of a document are made of.
+-- What the private functions of a block, an image and a document want, answer and leave.
 -- Assumes nothing.
 use mathlib.Core.Path.{_≡_}
-use mathlib.Core.List.{List, [], _++_}
-use Prim.Native.Nat.{ℕ, zero, suc, _+_, _*_, _≤_, _<_}
+use mathlib.Core.Bool.{Bool, _&&_ as and}
+use mathlib.Core.List.{List}
+use Prim.Native.Nat.{ℕ, _+_, _*_, _≤_, _<_}
 use lib.Dec.{ltb}
 use lib.ListN.{length}
 use Rattle.format.specs.declared.IndexRecordOption.{IndexRecordOption}
 use Rattle.format.specs.declared.Next.{Next}
 use Rattle.format.specs.declared.Next.the-variants.{At as Behind, Refused}
-use Rattle.format.specs.Basics.{Outcome, ok, andThen, ask, lastOf, putAt, TERMINATED}
-use Rattle.format.specs.Refusal.{stateBroken}
-use Rattle.format.specs.Vint.{vint, vints}
-use Rattle.format.specs.Values.{gapsFrom}
-use Rattle.format.specs.SkipEntry.{hasFreq, entrySize}
-use Rattle.format.specs.Written.{onlyIf}
+use Rattle.format.specs.Basics.{Outcome, ok, andThen, ask, putAt, TERMINATED, choose, fitsAt}
+use Rattle.format.specs.Refusal.{noRoom, stateBroken}
+use Rattle.format.specs.SkipEntry.{entrySize}
+use Rattle.format.specs.Written.{entryOf, blockOf}
 use Rattle.format.specs.Accepted.{takeDoc}
 use Rattle.serializer.specs.declared.PostingsSerializer.{PostingsSerializer}
-use Rattle.serializer.specs.declared.Placed.{Placed}
-use Rattle.serializer.specs.declared.Placed.the-variants.{At}
+use Rattle.serializer.specs.declared.block.Placed.{Placed}
+use Rattle.serializer.specs.declared.block.Placed.the-variants.{At, NoRoom}
+use Rattle.serializer.specs.declared.block.Places.{Places}
+use Rattle.serializer.specs.declared.Written.{Written}
+use Rattle.serializer.specs.declared.Written.the-variants.{Bytes, Refused as No}
 use Rattle.serializer.specs.Writer.{boundsHold, optionOf, firstLeast, leastAfter, waitingDocs}
 
 -- ---- a block
 
--- a block of these widths and its entry fit their areas from two places on
-pub record BlockFits (option : IndexRecordOption) (dw fw p q : ℕ) (skips postings : List ℕ) : Type 0 where
+-- a block of these widths and its entry fit their areas from these places on
+pub record BlockFits (option : IndexRecordOption) (dw fw : ℕ) (at : Places) (skips postings : List ℕ) : Type 0 where
   pub doc-width : dw < 32
   pub freq-width : fw ≤ 32
-  pub skips-room : p + entrySize option ≤ length skips
-  pub postings-room : q + 16 * (dw + fw) ≤ length postings
+  pub skips-room : at .skips + entrySize option ≤ length skips
+  pub postings-room : at .postings + 16 * (dw + fw) ≤ length postings
+
+-- the places behind an entry and a block
+abbrev pub behindBoth : (entry block : List ℕ) → Places → Places
+behindBoth entry block at = record { skips = at .skips + length entry; postings = at .postings + length block }
 
 -- an entry and a block put into their areas
-pub record BlockPut (entry block : List ℕ) (p q : ℕ) (skips postings skips′ postings′ : List ℕ) (r : Placed) : Type 0 where
-  pub placed : r ≡ At (p + length entry) (q + length block)
-  pub skips-after : skips′ ≡ putAt p entry skips
-  pub postings-after : postings′ ≡ putAt q block postings
+pub record BlockPut (entry block : List ℕ) (at : Places) (skips postings skips′ postings′ : List ℕ) (r : Places) : Type 0 where
+  pub placed : r ≡ behindBoth entry block at
+  pub skips-after : skips′ ≡ putAt (at .skips) entry skips
+  pub postings-after : postings′ ≡ putAt (at .postings) block postings
+
+-- a full block and its entry fit their areas from these places on
+unfoldable pub blockFits : IndexRecordOption → ℕ → List ℕ → List ℕ → Places → List ℕ → List ℕ → Bool
+unfolding entryOf blockOf fitsAt
+blockFits option least ds fs at skips postings =
+    and (fitsAt (at .skips) (entryOf option least ds fs) skips) (fitsAt (at .postings) (blockOf option least ds fs) postings)
+
+-- .. and are put there if both do
+pub record BlockWritten (option : IndexRecordOption) (least : ℕ) (ds fs : List ℕ) (at : Places) (skips postings skips′ postings′ : List ℕ) (r : Placed) : Type 0 where
+  pub placed :
+      r
+      ≡ choose (blockFits option least ds fs at skips postings)
+      (λ _. At (behindBoth (entryOf option least ds fs) (blockOf option least ds fs) at)) (λ _. NoRoom)
+  pub skips-after :
+      skips′ ≡ choose (blockFits option least ds fs at skips postings) (λ _. putAt (at .skips) (entryOf option least ds fs) skips) (λ _. skips)
+  pub postings-after :
+      postings′ ≡ choose (blockFits option least ds fs at skips postings) (λ _. putAt (at .postings) (blockOf option least ds fs) postings) (λ _. postings)
 
 -- ---- an image
-
--- the skip length and the entries, where there is a full block
-unfoldable pub headOf : ℕ → List ℕ → List ℕ
-unfolding vint
-headOf zero skips = []
-headOf (suc n) skips = vint (length skips) ++ skips
-
--- a tail behind the id `offset`
-unfoldable pub tailWith : IndexRecordOption → ℕ → List ℕ → List ℕ → List ℕ
-unfolding vints gapsFrom onlyIf hasFreq
-tailWith option offset ds fs = vints (gapsFrom 0 offset ds) ++ onlyIf (hasFreq option) (vints fs)
 
 -- the place that a writer of bytes answers
 unfoldable pub placeOf : Next → ℕ
@@ -58,6 +70,11 @@ pub record BytesPut (p : ℕ) (bs area area′ : List ℕ) (r : ℕ) : Type 0 wh
   pub behind : r ≡ p + length bs
   pub area-after : area′ ≡ putAt p bs area
 
+-- an image at the front of the output, if it fits
+pub record ImagePut (image output output′ : List ℕ) (r : Written) : Type 0 where
+  pub answer : r ≡ choose (fitsAt 0 image output) (λ _. Bytes (length image)) (λ _. No noRoom)
+  pub output-after : output′ ≡ putAt 0 image output
+
 -- ---- a document
 
 -- what is asked before it is taken: 16, 11 to 13, and 16 where as many are taken as can be
@@ -67,18 +84,3 @@ asking s d f skips postings =
     ask (boundsHold s skips postings) stateBroken λ _.
     andThen (takeDoc (optionOf s) (leastAfter (firstLeast s) (waitingDocs s)) d f) λ _.
     ask (ltb (s .taken) TERMINATED) stateBroken λ _. ok 0
-
--- no document waits, and the last block reaches to these places
-unfoldable pub emptied : PostingsSerializer → ℕ → ℕ → PostingsSerializer
-unfolding lastOf
-emptied s p q = record {
-  docs = s .docs;
-  freqs = s .freqs;
-  mode = s .mode;
-  recording = s .recording;
-  waiting = 0;
-  «last_doc» = lastOf 0 (s .docs);
-  taken = s .taken;
-  «skips_at» = p;
-  «postings_at» = q;
-}

@@ -3,18 +3,16 @@
 use mathlib.Core.Path.{_≡_}
 use mathlib.Core.Bool.{Bool, true, _&&_ as and}
 use mathlib.Core.List.{List}
-use Prim.Native.Nat.{ℕ, _+_, _*_, _/_, _≤_}
+use Prim.Native.Nat.{ℕ, _+_, _/_, _≤_}
 use lib.Dec.{leb}
 use lib.ListN.{length, take, drop}
 use Rattle.format.specs.declared.IndexRecordOption.{IndexRecordOption}
-use Rattle.format.specs.Basics.{choose, lastOf, putAt, fitsAt}
+use Rattle.format.specs.Basics.{choose, putAt, fitsAt}
 use Rattle.format.specs.Refusal.{noRoom}
 use Rattle.format.specs.Values.{rising}
-use Rattle.format.specs.Written.{Parts, image}
+use Rattle.format.specs.Written.{Parts, blocksOf, image}
 use Rattle.serializer.specs.declared.Written.{Written}
 use Rattle.serializer.specs.declared.Written.the-variants.{Bytes, Refused}
-use Rattle.serializer.specs.Writer.{blocksOf}
-use Rattle.serializer.specs.Calls.{imageWith}
 
 -- a list that passed its questions: its ids rise, and there are as many frequencies
 pub record Checked (ds fs : List ℕ) : Type 0 where
@@ -43,16 +41,6 @@ pub record PartsThere (ds fs : List ℕ) (entries size : ℕ) (skips postings : 
   pub as-many : length ds ≡ length fs
   pub entries-there : entries ≤ length skips
   pub blocks-there : size ≤ length postings
-
--- how many documents the full blocks have
-abbrev pub inBlocks : List ℕ → ℕ
-inBlocks ds = 128 * (length ds / 128)
-
--- the image of the list, given the bytes of its entries and blocks
-unfoldable pub imageFrom : IndexRecordOption → List ℕ → List ℕ → List ℕ → List ℕ → List ℕ
-unfolding imageWith lastOf
-imageFrom option ds fs skips postings =
-    imageWith (length ds / 128) skips postings option (lastOf 0 (take (inBlocks ds) ds)) (drop (inBlocks ds) ds) (drop (inBlocks ds) fs)
 
 -- question 15, of the two areas
 unfoldable pub blocksFit : IndexRecordOption → List ℕ → List ℕ → List ℕ → List ℕ → Bool

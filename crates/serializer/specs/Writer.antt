@@ -1,46 +1,19 @@
 -- What the writer's calls answer and leave: the state, the two lent areas and the output, on every input.
 -- Assumes nothing.
-use mathlib.Core.Bool.{Bool, true, false, not, _&&_ as and, _||_ as or}
-use mathlib.Core.List.{List, [], _∷_, _++_}
-use Prim.Native.Nat.{ℕ, zero, suc, _+_, _/_}
-use lib.ListN.{length, take, drop, set, replicate}
+use mathlib.Core.Bool.{Bool, not, _&&_ as and, _||_ as or}
+use mathlib.Core.List.{List, [], _∷_}
+use Prim.Native.Nat.{ℕ, _+_, _-_, _/_}
+use lib.ListN.{length, take, set, replicate}
 use lib.Dec.{eqb, leb, ltb}
 use Rattle.format.specs.declared.IndexRecordOption.{IndexRecordOption}
 use Rattle.format.specs.Basics.{Outcome, ok, refused, andThen, ask, choose, lastOf, putAt, fitsAt, orBefore, TERMINATED}
 use Rattle.format.specs.Refusal.{unknownMode, countMismatch, noRoom, stateBroken}
-use Rattle.format.specs.Vint.{vints}
-use Rattle.format.specs.Bitpacking.{pack, width}
-use Rattle.format.specs.Values.{gaps, reduced, rising, countable}
-use Rattle.format.specs.SkipEntry.{hasFreq, writeEntry}
-use Rattle.format.specs.Written.{onlyIf, Parts, headed}
+use Rattle.format.specs.Values.{rising, countable}
+use Rattle.format.specs.SkipEntry.{hasFreq}
+use Rattle.format.specs.Written.{entryOf, blockOf, Parts, blocksOf, imageWith}
 use Rattle.format.specs.Accepted.{keptIn, takeDoc, written}
+use Rattle.serializer.specs.declared.block.Places.{Places}
 use Rattle.serializer.specs.declared.PostingsSerializer.{PostingsSerializer}
-
--- ---- the bytes of one full block
-
--- the values of a block's documents, and of its frequencies where they are kept
-unfoldable pub docValues : ℕ → List ℕ → List ℕ
-unfolding gaps
-docValues least ds = gaps true least ds
-
-unfoldable pub freqValues : IndexRecordOption → List ℕ → List ℕ
-unfolding onlyIf hasFreq reduced
-freqValues option fs = onlyIf (hasFreq option) (reduced true fs)
-
-unfoldable pub entryOf : IndexRecordOption → ℕ → List ℕ → List ℕ → List ℕ
-unfolding writeEntry lastOf width docValues freqValues
-entryOf option least ds fs = writeEntry option (lastOf 0 ds) (width (docValues least ds)) (width (freqValues option fs))
-
--- documents before frequencies
-unfoldable pub blockOf : IndexRecordOption → ℕ → List ℕ → List ℕ → List ℕ
-unfolding pack width docValues freqValues
-blockOf option least ds fs =
-    pack (width (docValues least ds)) (docValues least ds) ++ pack (width (freqValues option fs)) (freqValues option fs)
-
--- the tail's id differences, then its frequencies unreduced
-unfoldable pub tailOf : IndexRecordOption → ℕ → List ℕ → List ℕ → List ℕ
-unfolding vints gaps onlyIf hasFreq
-tailOf option least ds fs = vints (gaps false least ds) ++ onlyIf (hasFreq option) (vints fs)
 
 -- ---- the state
 
@@ -121,25 +94,30 @@ stored s d f = record {
   «postings_at» = s .«postings_at»;
 }
 
+-- no document waits, and the areas are filled up to these places
+unfoldable pub emptied : PostingsSerializer → Places → PostingsSerializer
+unfolding lastOf
+emptied s at = record {
+  docs = s .docs;
+  freqs = s .freqs;
+  mode = s .mode;
+  recording = s .recording;
+  waiting = 0;
+  «last_doc» = lastOf 0 (s .docs);
+  taken = s .taken;
+  «skips_at» = at .skips;
+  «postings_at» = at .postings;
+}
+
 -- 128 wait: their block and its entry go into the areas, from the places reached so far, if they fit
 unfoldable pub finished : PostingsSerializer → ℕ → List ℕ → List ℕ → Outcome Areas
-unfolding ask fitsAt putAt lastOf entryOf blockOf optionOf
+unfolding ask fitsAt putAt emptied entryOf blockOf optionOf
 finished s least skips postings =
     let entry : List ℕ = entryOf (optionOf s) least (s .docs) (s .freqs) in
     let block : List ℕ = blockOf (optionOf s) least (s .docs) (s .freqs) in
     ask (and (fitsAt (s .«skips_at») entry skips) (fitsAt (s .«postings_at») block postings)) noRoom λ _.
     ok (record {
-      state = record {
-        docs = s .docs;
-        freqs = s .freqs;
-        mode = s .mode;
-        recording = s .recording;
-        waiting = 0;
-        «last_doc» = lastOf 0 (s .docs);
-        taken = s .taken;
-        «skips_at» = s .«skips_at» + length entry;
-        «postings_at» = s .«postings_at» + length block;
-      };
+      state = emptied s (record { skips = s .«skips_at» + length entry; postings = s .«postings_at» + length block });
       skips = putAt (s .«skips_at») entry skips;
       postings = putAt (s .«postings_at») block postings;
     })
@@ -157,12 +135,10 @@ taking s d f skips postings =
 
 -- the image: what the areas hold so far, and the tail
 unfoldable pub imageOf : PostingsSerializer → List ℕ → List ℕ → List ℕ
-unfolding headed tailOf optionOf firstLeast waitingDocs waitingFreqs
+unfolding imageWith optionOf firstLeast waitingDocs waitingFreqs
 imageOf s skips postings =
-    headed (s .taken / 128) (record {
-      skips = take (s .«skips_at») skips;
-      postings = take (s .«postings_at») postings ++ tailOf (optionOf s) (firstLeast s) (waitingDocs s) (waitingFreqs s);
-    })
+    imageWith (s .taken / 128) (take (s .«skips_at») skips) (take (s .«postings_at») postings) (optionOf s) (firstLeast s - 1)
+    (waitingDocs s) (waitingFreqs s)
 
 -- closing: 16, then 14, then 15 where the image doesn't fit the output
 unfoldable pub closing : PostingsSerializer → ℕ → List ℕ → List ℕ → List ℕ → Outcome (List ℕ)
@@ -189,17 +165,6 @@ acceptedCount option least (d ∷ ds) [] = 0
 acceptedCount option least (d ∷ ds) (f ∷ fs) = orBefore (λ next. 1 + acceptedCount option next ds fs) (takeDoc option least d f) 0
 
 -- ---- a whole list
-
--- the entries and the blocks of n full blocks
-unfoldable pub blocksOf : IndexRecordOption → ℕ → ℕ → List ℕ → List ℕ → Parts
-unfolding entryOf blockOf lastOf
-blocksOf option zero least ds fs = record { skips = []; postings = [] }
-blocksOf option (suc n) least ds fs =
-    let rest : Parts = blocksOf option n (lastOf 0 (take 128 ds) + 1) (drop 128 ds) (drop 128 fs) in
-    record {
-      skips = entryOf option least (take 128 ds) (take 128 fs) ++ rest .skips;
-      postings = blockOf option least (take 128 ds) (take 128 fs) ++ rest .postings;
-    }
 
 -- 1, 14 for slices of different length, 11 to 13 document by document, and 15 last
 unfoldable pub listing : ℕ → Bool → List ℕ → List ℕ → List ℕ → List ℕ → List ℕ → Outcome (List ℕ)

@@ -1,6 +1,5 @@
 // A full block: its skip entry into one lent area, its packed values into the other.
 
-use crate::Placed;
 use bitpacking::num_bits;
 use bitpacking::pack;
 use common::within;
@@ -22,8 +21,25 @@ ghost use Rattle.format.specs.Bitpacking as packing;
 ghost use Rattle.format.specs.SkipEntry.{hasFreq, entrySize, writeEntry};
 ghost use Rattle.format.specs.Values.{rising};
 ghost use Rattle.format.specs.Written.{onlyIf};
-ghost use Rattle.serializer.specs.Calls.{BlockWritten};
-ghost use Rattle.serializer.specs.Pieces.{BlockFits, BlockPut};
+ghost use Rattle.serializer.specs.Pieces.{BlockFits, BlockPut, BlockWritten};
+
+// Places in the two areas, for a block's entry and for its values.
+pub struct Places {
+    pub skips: usize,
+    pub postings: usize,
+}
+
+// Where the areas reach behind a block; or that one of them has no room for it.
+pub enum Placed {
+    At(Places),
+    NoRoom,
+}
+
+// The widths of a block's document values and of its frequency values.
+struct Widths {
+    docs: u8,
+    freqs: u8,
+}
 
 // The last of some ids, 0 where there is none.
 pub(crate) fn last_of(docs: &[u32]) -> u32
@@ -47,23 +63,16 @@ fn freq_width(option: IndexRecordOption, values: &[u32; 128]) -> u8
     }
 }
 
-// Whether an entry and a block of so many bits fit their areas from two places on.
-fn has_room(
-    option: IndexRecordOption,
-    bits: u8,
-    skips: &[u8],
-    skips_at: usize,
-    postings: &[u8],
-    postings_at: usize,
-) -> bool
+// Whether an entry and a block of so many bits fit their areas from these places on.
+fn has_room(option: IndexRecordOption, bits: u8, skips: &[u8], postings: &[u8], at: Places) -> bool
     requires { ⌜ bits < 64 ⌝ }
-    ensures { λ r. ⌜ r ≡ and (leb («skips_at» + entrySize option) (length (now (skips .entry))))
-        (leb («postings_at» + 16 * bits) (length (now (postings .entry)))) ⌝ }
+    ensures { λ r. ⌜ r ≡ and (leb (at .skips + entrySize option) (length (now (skips .entry))))
+        (leb (at .postings + 16 * bits) (length (now (postings .entry)))) ⌝ }
 {
-    if !within(skips_at, entry_size(option), skips.len()) {
+    if !within(at.skips, entry_size(option), skips.len()) {
         return false;
     }
-    within(postings_at, compressed_block_size(bits), postings.len())
+    within(at.postings, compressed_block_size(bits), postings.len())
 }
 
 // Packs values into an area from a place on, where they fit.
@@ -79,26 +88,24 @@ fn put_block(
     option: IndexRecordOption,
     last_doc: u32,
     doc_values: &[u32; 128],
-    doc_width: u8,
     freq_values: &[u32; 128],
-    freq_width: u8,
+    widths: Widths,
     skips: &mut [u8],
-    skips_at: usize,
     postings: &mut [u8],
-    postings_at: usize,
-) -> Placed
-    requires { ⌜ BlockFits option «doc_width» «freq_width» «skips_at» «postings_at» (now skips) (now postings) ⌝ }
-    ensures { λ r. ⌜ BlockPut (writeEntry option «last_doc» «doc_width» «freq_width»)
-        (packing.pack «doc_width» (now («doc_values» .entry)) ++ packing.pack «freq_width» (now («freq_values» .entry)))
-        «skips_at» «postings_at» (now (skips .entry)) (now (postings .entry)) (now (skips .exit)) (now (postings .exit)) r ⌝ }
+    at: Places,
+) -> Places
+    requires { ⌜ BlockFits option (widths .docs) (widths .freqs) at (now skips) (now postings) ⌝ }
+    ensures { λ r. ⌜ BlockPut (writeEntry option «last_doc» (widths .docs) (widths .freqs))
+        (packing.pack (widths .docs) (now («doc_values» .entry)) ++ packing.pack (widths .freqs) (now («freq_values» .entry)))
+        at (now (skips .entry)) (now (postings .entry)) (now (skips .exit)) (now (postings .exit)) r ⌝ }
 {
-    let freqs_at = postings_at + compressed_block_size(doc_width);
-    pack_at(doc_values, doc_width, postings, postings_at);
-    pack_at(freq_values, freq_width, postings, freqs_at);
-    write_entry(option, last_doc, doc_width, freq_width, skips, skips_at);
-    Placed::At {
-        skips: skips_at + entry_size(option),
-        postings: freqs_at + compressed_block_size(freq_width),
+    let freqs_at = at.postings + compressed_block_size(widths.docs);
+    pack_at(doc_values, widths.docs, postings, at.postings);
+    pack_at(freq_values, widths.freqs, postings, freqs_at);
+    write_entry(option, last_doc, widths.docs, widths.freqs, skips, at.skips);
+    Places {
+        skips: at.skips + entry_size(option),
+        postings: freqs_at + compressed_block_size(widths.freqs),
     }
 }
 
@@ -109,34 +116,32 @@ pub(crate) fn write_block(
     docs: &[u32; 128],
     freqs: &[u32; 128],
     skips: &mut [u8],
-    skips_at: usize,
     postings: &mut [u8],
-    postings_at: usize,
+    at: Places,
 ) -> Placed
     requires { ⌜ rising least (now docs) ≡ true ⌝ }
-    ensures { λ r. ⌜ BlockWritten option least (now (docs .entry)) (now (freqs .entry)) «skips_at» «postings_at»
+    ensures { λ r. ⌜ BlockWritten option least (now (docs .entry)) (now (freqs .entry)) at
         (now (skips .entry)) (now (postings .entry)) (now (skips .exit)) (now (postings .exit)) r ⌝ }
 {
     let mut doc_values = *docs;
     reduce_docs(&mut doc_values, least);
     let mut freq_values = *freqs;
     reduce_freqs(&mut freq_values);
-    let doc_width = num_bits(&doc_values);
-    let freq_width = freq_width(option, &freq_values);
-    let bits = doc_width + freq_width;
-    if !has_room(option, bits, skips, skips_at, postings, postings_at) {
+    let widths = Widths {
+        docs: num_bits(&doc_values),
+        freqs: freq_width(option, &freq_values),
+    };
+    if !has_room(option, widths.docs + widths.freqs, skips, postings, at) {
         return Placed::NoRoom;
     }
-    put_block(
+    Placed::At(put_block(
         option,
         last_of(docs),
         &doc_values,
-        doc_width,
         &freq_values,
-        freq_width,
+        widths,
         skips,
-        skips_at,
         postings,
-        postings_at,
-    )
+        at,
+    ))
 }

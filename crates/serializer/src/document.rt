@@ -1,9 +1,10 @@
 // One document more: what is asked of it, and what taking it does.
 
 use crate::Accepted;
-use crate::Placed;
 use crate::PostingsSerializer;
 use crate::Step;
+use crate::block::Placed;
+use crate::block::Places;
 use crate::block::write_block;
 use crate::bounds::first_least;
 use crate::bounds::in_bounds;
@@ -27,8 +28,8 @@ ghost use Rattle.format.specs.Basics as basics;
 ghost use Rattle.format.specs.SkipEntry.{hasFreq};
 ghost use Rattle.format.specs.Values.{rising};
 ghost use Rattle.serializer.specs.Calls.{accepted, Settled, Took};
-ghost use Rattle.serializer.specs.Pieces.{asking, emptied};
-ghost use Rattle.serializer.specs.Writer.{firstLeast, waitingDocs, leastAfter, stored, finished};
+ghost use Rattle.serializer.specs.Pieces.{asking};
+ghost use Rattle.serializer.specs.Writer.{firstLeast, waitingDocs, leastAfter, stored, finished, emptied};
 
 // The least id that may come next.
 fn next_least(state: PostingsSerializer) -> u64
@@ -54,7 +55,7 @@ fn freq_counts(option: IndexRecordOption, freq: u32) -> bool
 }
 
 // Questions 11 to 13.
-fn ask_doc(option: IndexRecordOption, least: u64, doc: u32, freq: u32) -> Accepted
+pub(crate) fn ask_doc(option: IndexRecordOption, least: u64, doc: u32, freq: u32) -> Accepted
     ensures { λ r. ⌜ r ≡ accepted (takeDoc option least doc freq) ⌝ }
 {
     if TERMINATED <= doc {
@@ -117,12 +118,8 @@ fn with_doc(state: PostingsSerializer, doc: u32, freq: u32) -> PostingsSerialize
 }
 
 // The state behind a block that was written up to these places.
-fn without_block(
-    state: PostingsSerializer,
-    skips_at: usize,
-    postings_at: usize,
-) -> PostingsSerializer
-    ensures { λ r. ⌜ r ≡ emptied state «skips_at» «postings_at» ⌝ }
+fn without_block(state: PostingsSerializer, at: Places) -> PostingsSerializer
+    ensures { λ r. ⌜ r ≡ emptied state at ⌝ }
 {
     let docs = state.docs;
     let freqs = state.freqs;
@@ -135,8 +132,8 @@ fn without_block(
         waiting: 0,
         last_doc,
         taken: state.taken,
-        skips_at,
-        postings_at,
+        skips_at: at.skips,
+        postings_at: at.postings,
     }
 }
 
@@ -161,15 +158,13 @@ fn finish(
         &docs,
         &freqs,
         skips,
-        full.skips_at,
         postings,
-        full.postings_at,
+        Places {
+            skips: full.skips_at,
+            postings: full.postings_at,
+        },
     );
-    let Placed::At {
-        skips: skips_at,
-        postings: postings_at,
-    } = placed
-    else {
+    let Placed::At(at) = placed else {
         return Step {
             answer: Accepted::Refused(NO_ROOM),
             state,
@@ -177,7 +172,7 @@ fn finish(
     };
     Step {
         answer: Accepted::Yes,
-        state: without_block(full, skips_at, postings_at),
+        state: without_block(full, at),
     }
 }
 

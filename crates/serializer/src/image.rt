@@ -22,9 +22,8 @@ ghost use lib.Dec.{leb};
 ghost use lib.ListN.{length};
 ghost use Rattle.format.specs.SkipEntry.{hasFreq};
 ghost use Rattle.format.specs.Vint.{vints};
-ghost use Rattle.format.specs.Written.{onlyIf};
-ghost use Rattle.serializer.specs.Calls.{imageWith, ImagePut};
-ghost use Rattle.serializer.specs.Pieces.{headOf, tailWith, placeOf, BytesPut};
+ghost use Rattle.format.specs.Written.{onlyIf, headOf, tailOf, imageWith};
+ghost use Rattle.serializer.specs.Pieces.{placeOf, BytesPut, ImagePut};
 ghost use Rattle.serializer.specs.Writer.{firstLeast, inBounds, imageOf};
 
 // How many bytes the skip length and the entries take.
@@ -127,8 +126,8 @@ fn put_tail(
     output: &mut [u8],
     at: usize,
 ) -> usize
-    requires { ⌜ at + length (tailWith option offset (now docs) (now freqs)) ≤ length (now output) ⌝ }
-    ensures { λ r. ⌜ BytesPut at (tailWith option offset (now (docs .entry)) (now (freqs .entry))) (now (output .entry)) (now (output .exit)) r ⌝ }
+    requires { ⌜ at + length (tailOf option offset (now docs) (now freqs)) ≤ length (now output) ⌝ }
+    ensures { λ r. ⌜ BytesPut at (tailOf option offset (now (docs .entry)) (now (freqs .entry))) (now (output .entry)) (now (output .exit)) r ⌝ }
 {
     let freqs_at = behind(compress_sorted(docs, offset, output, at));
     put_freqs(option, freqs, output, freqs_at)

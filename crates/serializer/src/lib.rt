@@ -60,12 +60,6 @@ pub struct ClosedTerm {
     pub state: PostingsSerializer,
 }
 
-// Where the areas reach behind a block; or that one of them has no room for it.
-pub enum Placed {
-    At { skips: usize, postings: usize },
-    NoRoom,
-}
-
 // A state that holds no document.
 fn fresh(mode: u8, recording: bool) -> PostingsSerializer
     ensures { λ r. ⌜ r ≡ specs.fresh mode recording ⌝ }

@@ -1,10 +1,12 @@
 // A whole list in one call. All questions are asked before a byte is written, so that a refusal leaves everything lent as it was.
 
 use crate::Accepted;
-use crate::Placed;
 use crate::Written;
+use crate::block::Placed;
+use crate::block::Places;
 use crate::block::last_of;
 use crate::block::write_block;
+use crate::document::ask_doc;
 use crate::image::image_fits;
 use crate::image::put_image;
 use bitpacking::num_bits;
@@ -12,57 +14,38 @@ use compression::compressed_block_size;
 use compression::values::reduce_docs;
 use compression::values::reduce_freqs;
 use format::COUNT_MISMATCH;
-use format::FREQ_ZERO;
-use format::ID_NOT_RISING;
-use format::ID_TOO_LARGE;
 use format::IndexRecordOption;
 use format::NO_ROOM;
-use format::TERMINATED;
 use format::UNKNOWN_MODE;
 use skip::entry_size;
 use skip::has_freq;
 use skip::record_option;
 ghost use mathlib.Core.Path.{_≡_};
-ghost use mathlib.Core.Bool.{true, not, _||_ as or};
-ghost use Prim.Native.Nat.{ℕ, _+_, _*_, _/_, _≤_};
-ghost use lib.Dec.{leb};
+ghost use mathlib.Core.Bool.{true};
+ghost use Prim.Native.Nat.{_+_, _*_, _/_, _≤_};
 ghost use lib.ListN.{length, take, drop};
 ghost use Rattle.format.specs.Bitpacking.{width};
-ghost use Rattle.format.specs.SkipEntry.{hasFreq, entrySize};
+ghost use Rattle.format.specs.SkipEntry.{entrySize};
 ghost use Rattle.format.specs.Accepted.{takeDocs, written};
-ghost use Rattle.serializer.specs.Writer.{docValues, freqValues, blockOf, announcing};
-ghost use Rattle.serializer.specs.Calls.{accepted, BlockWritten, ImagePut, Listed};
-ghost use Rattle.serializer.specs.Whole.{Checked, ListSized, BlockThere, PartsThere, fullBlocks, imageFrom, blocksFit, listFits, BlocksPut, ListPut};
-
-// The least frequency that question 13 lets pass.
-fn least_freq(option: IndexRecordOption) -> u32
-    ensures { λ r. ⌜ ((f : ℕ) → leb r f ≡ or (not (hasFreq option)) (leb 1 f)) ⌝ }
-{
-    match option {
-        IndexRecordOption::Basic => 0,
-        IndexRecordOption::WithFreqs => 1,
-    }
-}
+ghost use Rattle.format.specs.Written.{docValues, freqValues, blockOf, imageFrom};
+ghost use Rattle.serializer.specs.Writer.{announcing};
+ghost use Rattle.serializer.specs.Calls.{accepted, Listed};
+ghost use Rattle.serializer.specs.Pieces.{BlockWritten, ImagePut};
+ghost use Rattle.serializer.specs.Whole.{Checked, ListSized, BlockThere, PartsThere, fullBlocks, blocksFit, listFits, BlocksPut, ListPut};
 
 // Questions 11 to 13, document by document.
 fn check_docs(option: IndexRecordOption, ids: &[u32], freqs: &[u32]) -> Accepted
     requires { ⌜ length (now ids) ≡ length (now freqs) ⌝ }
     ensures { λ r. ⌜ r ≡ accepted (takeDocs option 0 (now (ids .entry)) (now (freqs .entry))) ⌝ }
 {
-    let least_freq = least_freq(option);
-    let mut least = 0u32;
+    let mut least = 0u64;
     for i in 0..ids.len() {
         let doc = ids[i];
-        if TERMINATED <= doc {
-            return Accepted::Refused(ID_TOO_LARGE);
-        }
-        if doc < least {
-            return Accepted::Refused(ID_NOT_RISING);
-        }
-        if freqs[i] < least_freq {
-            return Accepted::Refused(FREQ_ZERO);
-        }
-        least = doc + 1;
+        let asked = ask_doc(option, least, doc, freqs[i]);
+        let Accepted::Yes = asked else {
+            return asked;
+        };
+        least = doc as u64 + 1;
     }
     Accepted::Yes
 }
@@ -168,33 +151,31 @@ fn list_fits(
     )
 }
 
-// Writes the block of the documents at `at`, and its entry.
+// Writes the block of the documents from `first` on, and its entry.
 fn write_next(
     option: IndexRecordOption,
     least: u32,
     ids: &[u32],
     freqs: &[u32],
-    at: usize,
+    first: usize,
     skips: &mut [u8],
-    skips_at: usize,
     postings: &mut [u8],
-    postings_at: usize,
+    at: Places,
 ) -> Placed
-    requires { ⌜ BlockThere least at (now ids) (now freqs) ⌝ }
-    ensures { λ r. ⌜ BlockWritten option least (take 128 (drop at (now (ids .entry)))) (take 128 (drop at (now (freqs .entry)))) «skips_at» «postings_at»
+    requires { ⌜ BlockThere least first (now ids) (now freqs) ⌝ }
+    ensures { λ r. ⌜ BlockWritten option least (take 128 (drop first (now (ids .entry)))) (take 128 (drop first (now (freqs .entry)))) at
         (now (skips .entry)) (now (postings .entry)) (now (skips .exit)) (now (postings .exit)) r ⌝ }
 {
-    let block_docs = copy_block(ids, at);
-    let block_freqs = copy_block(freqs, at);
+    let block_docs = copy_block(ids, first);
+    let block_freqs = copy_block(freqs, first);
     write_block(
         option,
         least,
         &block_docs,
         &block_freqs,
         skips,
-        skips_at,
         postings,
-        postings_at,
+        at,
     )
 }
 
@@ -210,31 +191,18 @@ fn write_blocks(
     ensures { λ _. ⌜ BlocksPut option (now (ids .entry)) (now (freqs .entry)) (now (skips .entry)) (now (postings .entry)) (now (skips .exit)) (now (postings .exit)) ⌝ }
 {
     let mut least = 0u32;
-    let mut skips_at = 0;
-    let mut postings_at = 0;
+    let mut at = Places {
+        skips: 0,
+        postings: 0,
+    };
     for n in 0..ids.len() / 128 {
-        let at = 128 * n;
-        let placed = write_next(
-            option,
-            least,
-            ids,
-            freqs,
-            at,
-            skips,
-            skips_at,
-            postings,
-            postings_at,
-        );
-        let Placed::At {
-            skips: s,
-            postings: p,
-        } = placed
-        else {
+        let first = 128 * n;
+        let placed = write_next(option, least, ids, freqs, first, skips, postings, at);
+        let Placed::At(next) = placed else {
             return;
         };
-        skips_at = s;
-        postings_at = p;
-        least = ids[at + 127] + 1;
+        at = next;
+        least = ids[first + 127] + 1;
     }
 }
 

@@ -14,19 +14,19 @@ use lib.ListN.{length, getD, take, drop, length-append, length-drop}
 use lib.Seq.{length-take-le, take-all}
 use Rattle.format.specs.declared.IndexRecordOption.{IndexRecordOption}
 use Rattle.format.specs.declared.IndexRecordOption.the-variants.{Basic, WithFreqs}
-use Rattle.format.specs.Basics.{choose, lastOf, fitsAt, TERMINATED}
+use Rattle.format.specs.Basics.{lastOf, fitsAt, TERMINATED}
 use Rattle.format.specs.SkipEntry.{entrySize}
-use Rattle.format.specs.Values.{gaps, origin, reduction, rising}
-use Rattle.format.specs.Written.{image}
+use Rattle.format.specs.Vint.{vint}
+use Rattle.format.specs.Values.{rising}
+use Rattle.format.specs.Written.{docValues, freqValues, blockOf, blocksOf, headOf, imageWith, inBlocks, imageFrom, image}
 use Rattle.format.proofs.Bitpacking.{width-le}
 use Rattle.format.proofs.ImageLayout.{skips-length}
+use Rattle.format.proofs.ImageParts.{blocksOf-zero, blocksOf-suc, parts-skips}
 use Rattle.format.proofs.Lists.{allBelow-getD}
 use Rattle.format.proofs.Values.{rising-take, rising-drop, rising-below}
-use Rattle.serializer.specs.Calls.{imageWith}
-use Rattle.serializer.specs.Pieces.{headOf, tailWith}
-use Rattle.serializer.specs.Whole.{ListSized, fullBlocks, inBlocks, imageFrom, blocksFit, listFits}
-use Rattle.serializer.specs.Writer.{docValues, freqValues, blockOf, tailOf, leastAfter, blocksOf}
-use Rattle.serializer.proofs.list.Blocks.{blocksOf-zero, blocksOf-suc, leastAfter-last, parts-skips, image-blocks, blocks-next}
+use Rattle.serializer.specs.Whole.{ListSized, fullBlocks, blocksFit, listFits}
+use Rattle.serializer.specs.Writer.{leastAfter}
+use Rattle.serializer.proofs.list.Blocks.{leastAfter-last, blocks-next}
 use Rattle.serializer.proofs.Laws.ImagePieces.{head-none, head-some, image-is}
 use Rattle.serializer.proofs.block.BlockPlaced.{blockOf-length}
 use Rattle.serializer.proofs.document.TakeCases.{least-some}
@@ -89,31 +89,20 @@ module _ (option : IndexRecordOption) where
 
 -- ---- the image
 
-least-before : (ds : List ℕ) → leastAfter 0 ds - 1 ≡ lastOf 0 ds
-unfolding leastAfter lastOf
-least-before [] = refl
-least-before (d ∷ ds) = omega arith
-
-tail-is : (option : IndexRecordOption) (least : ℕ) (ds fs : List ℕ) → tailOf option least ds fs ≡ tailWith option (least - 1) ds fs
-unfolding tailOf tailWith gaps origin reduction
-tail-is option least ds fs = refl
-
 head-size : (n : ℕ) (a b : List ℕ) → length a ≡ length b → length (headOf n a) ≡ length (headOf n b)
 head-size zero a b e = rw (head-none 0 a refl, head-none 0 b refl)
-head-size (suc n) a b e = rw (head-some (suc n) a (suc-ne-zero n), head-some (suc n) b (suc-ne-zero n), length-append, length-append, e)
+head-size (suc n) a b e = rw (head-some (suc n) a (suc-ne-zero n), head-some (suc n) b (suc-ne-zero n), length-append (vint (length a)) a, length-append (vint (length b)) b, e)
 
 module _ (option : IndexRecordOption) (ds fs : List ℕ) where
   pub image-from : image option ds fs ≡ imageFrom option ds fs (fullBlocks option ds fs .skips) (fullBlocks option ds fs .postings)
-  unfolding imageFrom imageWith fullBlocks
-  image-from =
-      let at : ℕ = 128 * (length ds / 128) in
-      rw (image-blocks option ds fs, tail-is option (leastAfter 0 (take at ds)) (drop at ds) (drop at fs), least-before (take at ds))
+  unfolding image fullBlocks
+  image-from = refl
 
   image-size : (skips postings skips′ postings′ : List ℕ) → length skips ≡ length skips′ → length postings ≡ length postings′
       → length (imageFrom option ds fs skips postings) ≡ length (imageFrom option ds fs skips′ postings′)
   unfolding imageFrom
   image-size skips postings skips′ postings′ a b =
-      rw (image-is, image-is) (simp length-append (rw (b, head-size (length ds / 128) skips skips′ a)))
+      rw (image-is (length ds / 128) skips postings, image-is (length ds / 128) skips′ postings′) (simp length-append (rw (b, head-size (length ds / 128) skips skips′ a)))
 
   -- the tail's documents and frequencies are all that lie behind the blocks
   pub image-parts : (skips postings : List ℕ) {offset : ℕ} → length ds ≡ length fs → offset ≡ lastOf 0 (take (inBlocks ds) ds)
@@ -137,7 +126,7 @@ module _ (option : IndexRecordOption) (ds fs skips postings : List ℕ) where
   blocksFit-is : blocksFit option ds fs skips postings
       ≡ and (leb (length (fullBlocks option ds fs .skips)) (length skips)) (leb (length (fullBlocks option ds fs .postings)) (length postings))
   unfolding blocksFit
-  blocksFit-is = rw (front-fits, front-fits)
+  blocksFit-is = rw (front-fits (fullBlocks option ds fs .skips) skips, front-fits (fullBlocks option ds fs .postings) postings)
 
   pub blocks-room : blocksFit option ds fs skips postings ≡ true
       → (length (fullBlocks option ds fs .skips) ≤ length skips) × (length (fullBlocks option ds fs .postings) ≤ length postings)

@@ -6,32 +6,33 @@
 use mathlib.Core.Bool.{Bool, true, false}
 use mathlib.Core.List.{List, [], _∷_, _++_}
 use mathlib.Core.Path.{_≡_, refl}
-use Prim.Native.Nat.{ℕ, zero, suc, _+_, _*_, _/_, _%_, _≤_, _<_, _^_, min}
+use Prim.Native.Nat.{ℕ, zero, suc, _+_, _-_, _*_, _/_, _%_, _≤_, _<_, _^_, min}
 use native.Mathlib.Nat.{le-trans, suc-mul}
 use native.Mathlib.Omega.{arith}
 use lib.ListN.{length, take, drop, length-append, length-drop}
 use Rattle.format.specs.declared.IndexRecordOption.{IndexRecordOption}
 use Rattle.format.specs.declared.IndexRecordOption.the-variants.{Basic, WithFreqs}
-use Rattle.format.specs.Basics.{ok, lastOf, AllBelow, TERMINATED}
+use Rattle.format.specs.Basics.{ok, lastOf, TERMINATED, AllBelow}
 use Rattle.format.specs.Bitpacking.{width, bitsF, largest}
 use Rattle.format.specs.SkipEntry.{hasFreq, entrySize}
 use Rattle.format.specs.Values.{gaps, rising}
 use Rattle.format.specs.Vint.{vints}
-use Rattle.format.specs.Written.{onlyIf, Parts, headed, image}
+use Rattle.format.specs.Written.{onlyIf, docValues, freqValues, blockOf, Parts, blocksOf, tailOf, image}
 use Rattle.format.specs.Accepted.{keptIn, written, Accepted}
 use Rattle.format.proofs.Accepted.{accepted-length, written-ok}
 use Rattle.format.proofs.Bitpacking.{width-le, width-least}
 use Rattle.format.proofs.Lists.{allBelow-le}
-use Rattle.format.proofs.Opened.{headed-zero, headed-suc}
+use Rattle.format.proofs.ImageParts.{headed, headed-zero, headed-suc, blocksOf-zero, blocksOf-suc, tailOf-is, image-blocks}
 use Rattle.format.proofs.Values.{length-gaps, gaps-below, rising-take, rising-drop}
 use Rattle.format.proofs.Vints.{vint-length-le, vints-length-le}
 use Rattle.serializer.specs.EnoughRoom.{skipsEnough, postingsEnough, outputEnough, Enough}
+use Rattle.serializer.specs.Lists.{HasRoom}
 use Rattle.serializer.specs.Whole.{fullBlocks}
-use Rattle.serializer.specs.Writer.{docValues, freqValues, blockOf, tailOf, leastAfter, blocksOf, listing}
+use Rattle.serializer.specs.Writer.{leastAfter, listing}
 use Rattle.serializer.proofs.block.BlockPlaced.{blockOf-length}
-use Rattle.serializer.proofs.list.Blocks.{blocksOf-zero, blocksOf-suc, tailOf-is, image-blocks}
+use Rattle.serializer.proofs.list.Blocks.{least-before}
 use Rattle.serializer.proofs.Laws.BlockPlaces.{entries-fit, full-skips, rises-behind}
-use Rattle.serializer.proofs.Laws.WholeList.{HasRoom, whole-list-writes}
+use Rattle.serializer.proofs.Laws.WholeList.{whole-list-writes}
 
 -- ---- a full block
 
@@ -72,7 +73,7 @@ tail-docs least ds r =
     omega (arith, vints-length-le (gaps false least ds) small, length-gaps false least ds)
 
 tail-most : (option : IndexRecordOption) (least : ℕ) (ds fs : List ℕ) → rising least ds ≡ true → length ds ≡ length fs → AllBelow (2 ^ 32) fs
-    → length (tailOf option least ds fs) ≤ outputEnough option (length ds)
+    → length (tailOf option (least - 1) ds fs) ≤ outputEnough option (length ds)
 unfolding onlyIf hasFreq outputEnough
 tail-most Basic least ds fs r same small = rw (tailOf-is, length-append) (omega (arith, tail-docs least ds r))
 tail-most WithFreqs least ds fs r same small = rw (tailOf-is, length-append) (omega (arith, tail-docs least ds r, vints-length-le fs small))
@@ -106,16 +107,16 @@ module _ (option : IndexRecordOption) (ds fs : List ℕ) (a : Accepted option 0 
   unfolding entrySize
   entries-few = entries-fit option full (omega (arith, accepted-length a))
 
-  behind-most : length (tailOf option (leastAfter 0 (take at ds)) (drop at ds) (drop at fs)) ≤ outputEnough option (length ds % 128)
+  behind-most : length (tailOf option (lastOf 0 (take at ds)) (drop at ds) (drop at fs)) ≤ outputEnough option (length ds % 128)
   behind-most =
       let left : length (drop at ds) ≡ length ds % 128 = omega (arith, length-drop at ds) in
       let same : length (drop at ds) ≡ length (drop at fs) = omega (arith, length-drop at ds, length-drop at fs, a .as-many) in
-      rw left at (tail-most option (leastAfter 0 (take at ds)) (drop at ds) (drop at fs) (rises-behind 0 at ds (a .rises)) same (below-drop (2 ^ 32) at fs small))
+      rw (left, least-before (take at ds)) at (tail-most option (leastAfter 0 (take at ds)) (drop at ds) (drop at fs) (rises-behind 0 at ds (a .rises)) same (below-drop (2 ^ 32) at fs small))
 
   pub image-most : length (image option ds fs) ≤ outputEnough option (length ds)
   image-most =
       let blocks = blocksOf option full 0 ds fs in
-      let tail = tailOf option (leastAfter 0 (take at ds)) (drop at ds) (drop at fs) in
+      let tail = tailOf option (lastOf 0 (take at ds)) (drop at ds) (drop at fs) in
       let most = headed-most full (record { skips = blocks .skips; postings = blocks .postings ++ tail }) (rw skips-most entries-few) in
       rw (image-blocks option ds fs)
       (omega (arith, most, skips-most, length-append (blocks .postings) tail, blocks-most option full 0 ds fs (a .rises), behind-most, sum-most option (length ds)))

@@ -3,7 +3,7 @@
 -- Assumes nothing.
 use mathlib.Core.Path.{_≡_, refl, sym, ap, _∙_}
 use mathlib.Core.Bool.{Bool, true, false}
-use mathlib.Core.List.{List, [], _++_, append-assoc}
+use mathlib.Core.List.{List, [], _++_}
 use Prim.Native.Nat.{ℕ, zero, suc, _+_, _≤_}
 use native.Mathlib.Nat.{add-zero, zero-add, lt-of-not-le}
 use native.Mathlib.Decide.{decLe}
@@ -18,11 +18,10 @@ use Rattle.format.specs.Refusal.{noRoom}
 use Rattle.format.specs.SkipEntry.{hasFreq}
 use Rattle.format.specs.Values.{gapsFrom}
 use Rattle.format.specs.Vint.{vint, vints}
-use Rattle.format.specs.Written.{onlyIf, headed}
+use Rattle.format.specs.Written.{onlyIf, headOf, tailOf, imageWith}
 use Rattle.format.proofs.Area.{putAt-nil, putAt-append, putAt-refused, nextAt-fits, length-putAt}
 use Rattle.serializer.specs.declared.Written.the-variants.{Bytes, Refused}
-use Rattle.serializer.specs.Calls.{imageWith, ImagePut}
-use Rattle.serializer.specs.Pieces.{headOf, tailWith, placeOf, BytesPut}
+use Rattle.serializer.specs.Pieces.{placeOf, BytesPut, ImagePut}
 
 -- ---- tests
 
@@ -53,16 +52,15 @@ head-some zero skips h = absurd (h refl)
 head-some (suc n) skips h = refl
 
 pub image-is : (n : ℕ) (skips postings : List ℕ) (option : IndexRecordOption) (offset : ℕ) (ds fs : List ℕ)
-    → imageWith n skips postings option offset ds fs ≡ headOf n skips ++ (postings ++ tailWith option offset ds fs)
-unfolding imageWith headOf headed
-image-is zero skips postings option offset ds fs = refl
-image-is (suc n) skips postings option offset ds fs = sym (append-assoc (vint (length skips)) skips _)
+    → imageWith n skips postings option offset ds fs ≡ headOf n skips ++ (postings ++ tailOf option offset ds fs)
+unfolding imageWith
+image-is n skips postings option offset ds fs = refl
 
 -- the size of an image is that of its parts
 pub image-length : (n : ℕ) (skips postings : List ℕ) (option : IndexRecordOption) (offset : ℕ) (ds fs : List ℕ)
     → length (imageWith n skips postings option offset ds fs)
     ≡ length (headOf n skips) + (length postings + (length (vints (gapsFrom 0 offset ds)) + length (onlyIf (hasFreq option) (vints fs))))
-unfolding tailWith
+unfolding tailOf
 image-length n skips postings option offset ds fs =
     rw (image-is n skips postings option offset ds fs)
     (simp length-append)

@@ -13,19 +13,14 @@ use lib.ListN.{length}
 use Rattle.format.specs.Basics.{ok, andThen, ask, fitsAt, AllBelow}
 use Rattle.format.specs.Refusal.{countMismatch, noRoom}
 use Rattle.format.specs.SkipEntry.{hasFreq}
-use Rattle.format.specs.Written.{Parts}
+use Rattle.format.specs.Written.{Parts, blocksOf}
 use Rattle.format.specs.Accepted.{keptIn, written}
 use Rattle.format.specs.Reading.{reading, soundness}
 use Rattle.format.specs.ReadsBack.{readFreqs, ReadsBack}
 use Rattle.format.proofs.Outcome.{ok-same, ask-ok, andThen-ok}
 use Rattle.format.proofs.ReadsBack.{reads-back, written-sound}
-use Rattle.serializer.specs.Writer.{blocksOf, listing, announcing}
-
--- room for a list's full blocks and their entries in the areas, and for its image in the output
-pub record HasRoom (mode : ℕ) (recording : Bool) (ds fs skips postings output image : List ℕ) : Type 0 where
-  pub skips-fit : length (blocksOf (keptIn mode recording) (length ds / 128) 0 ds fs .skips) ≤ length skips
-  pub postings-fit : length (blocksOf (keptIn mode recording) (length ds / 128) 0 ds fs .postings) ≤ length postings
-  pub output-fit : length image ≤ length output
+use Rattle.serializer.specs.Lists.{HasRoom}
+use Rattle.serializer.specs.Writer.{listing, announcing}
 
 module _ (mode : ℕ) (recording : Bool) (ds fs skips postings output : List ℕ) where
   abbrev blocks : Parts

@@ -4,7 +4,7 @@
 use mathlib.Core.Bool.{Bool, true, false, _&&_ as and, and-eq-true-iff, false≢true}
 use mathlib.Core.List.{List, [], _∷_, _++_, append-nil}
 use mathlib.Core.Path.{_≡_, refl, sym, _∙_}
-use Prim.Native.Nat.{ℕ, _+_, _<_, _^_}
+use Prim.Native.Nat.{ℕ, _+_, _-_, _<_, _^_}
 use native.Mathlib.Nat.{add-zero}
 use native.Mathlib.Decide.{decLt}
 use native.Mathlib.Omega.{arith}
@@ -13,15 +13,15 @@ use lib.ListN.{length}
 use Rattle.format.specs.declared.IndexRecordOption.{IndexRecordOption}
 use Rattle.format.specs.Basics.{Outcome, ok, refused, andThen, ask, putAt, fitsAt, AllBelow, orBefore}
 use Rattle.format.specs.Refusal.{noRoom}
-use Rattle.format.specs.Written.{Parts, parts}
+use Rattle.format.specs.Written.{entryOf, blockOf, Parts, blocksOf, tailOf}
 use Rattle.format.specs.Accepted.{takeDoc, takeDocs}
 use Rattle.format.proofs.Outcome.{refused≢ok}
 use Rattle.format.proofs.Area.{length-putAt}
+use Rattle.format.proofs.ImageParts.{parts, blocksOf-zero, blocksOf-suc, parts-front, parts-tail}
 use Rattle.serializer.specs.declared.PostingsSerializer.{PostingsSerializer}
-use Rattle.serializer.specs.Writer.{Areas, entryOf, blockOf, tailOf, optionOf, waitingDocs, waitingFreqs, firstLeast}
-use Rattle.serializer.specs.Writer.{stored, taking, takeAll, acceptedCount, blocksOf}
-use Rattle.serializer.proofs.list.Blocks.{blocksOf-zero, blocksOf-suc, parts-front, parts-tail}
-use Rattle.serializer.proofs.document.OneDocument.{nextLeast, Held, Accepts, accepts, emptied, filled, call-refused, call-waits, call-fills}
+use Rattle.serializer.specs.Writer.{Areas, optionOf, waitingDocs, waitingFreqs, firstLeast}
+use Rattle.serializer.specs.Writer.{stored, emptied, taking, takeAll, acceptedCount}
+use Rattle.serializer.proofs.document.OneDocument.{nextLeast, Held, Accepts, accepts, filled, call-refused, call-waits, call-fills}
 use Rattle.serializer.proofs.document.OneDocument.{stored-option, stored-next, stored-held, filled-option, filled-next, filled-held}
 use Rattle.serializer.proofs.SingleCalls.BlocksAhead.{ahead, accepted-cons, ahead-none, ahead-waits, ahead-fills}
 use Rattle.serializer.proofs.SingleCalls.BlocksAhead.{Wrote, wrote-none, wrote-front, both-append, room, room-none}
@@ -55,7 +55,7 @@ pub record Ended (s : PostingsSerializer) (ds fs skips postings : List ℕ) (r :
   pub postings-wrote :
       Wrote postings (s .«postings_at») (ahead blocksOf s ds fs .postings) (ahead parts s ds fs .postings)
       (areas .postings) (areas .state .«postings_at»)
-      (tailOf (optionOf (areas .state)) (firstLeast (areas .state)) (waitingDocs (areas .state)) (waitingFreqs (areas .state)))
+      (tailOf (optionOf (areas .state)) (firstLeast (areas .state) - 1) (waitingDocs (areas .state)) (waitingFreqs (areas .state)))
 
 -- 15 where the blocks don't fit; else what the definitions refuse; else all were taken
 pub data Answers (P : Outcome Areas → Type 0) : Bool → Outcome ℕ → Outcome Areas → Type 0 where
@@ -114,7 +114,7 @@ module _ {s : PostingsSerializer} {skips postings : List ℕ} (h : Held s skips 
         option-is = refl;
         next-is = refl;
         skips-wrote = rw (blocks, all) (wrote-none skips _ []);
-        postings-wrote = rw (blocks, all, append-nil, append-nil) (wrote-none postings _ _);
+        postings-wrote = rw (blocks, all, append-nil (waitingDocs s), append-nil (waitingFreqs s)) (wrote-none postings _ _);
       }))
 
   document-refused : (d f : ℕ) {n : ℕ} (ds fs : List ℕ) → takeDoc (optionOf s) (nextLeast s) d f ≡ refused n

@@ -14,11 +14,11 @@ use lib.ListN.{length, take, drop, length-append}
 use lib.Seq.{append-snoc, take-at, drop-at, take-length, take-paste}
 use Rattle.format.specs.declared.IndexRecordOption.{IndexRecordOption}
 use Rattle.format.specs.Basics.{lastOf, putAt, fitsAt, orBefore}
-use Rattle.format.specs.Written.{Parts}
+use Rattle.format.specs.Written.{entryOf, blockOf, Parts}
 use Rattle.format.specs.Accepted.{takeDoc}
 use Rattle.format.proofs.Area.{putAt-paste, length-putAt, putAt-nil, putAt-append, fits-front}
 use Rattle.serializer.specs.declared.PostingsSerializer.{PostingsSerializer}
-use Rattle.serializer.specs.Writer.{entryOf, blockOf, optionOf, waitingDocs, waitingFreqs, firstLeast}
+use Rattle.serializer.specs.Writer.{optionOf, waitingDocs, waitingFreqs, firstLeast}
 use Rattle.serializer.specs.Writer.{stored, acceptedCount}
 use Rattle.serializer.proofs.document.OneDocument.{nextLeast, Held, Accepts, filled, stored-option, stored-least, stored-docs, stored-freqs}
 use Rattle.serializer.proofs.document.OneDocument.{stored-next, stored-docs-long, stored-freqs-long, stored-whole-docs, stored-whole-freqs}
@@ -73,7 +73,7 @@ module _ {s : PostingsSerializer} {skips postings : List ℕ} {d f : ℕ} (a : A
   pub ahead-waits : ahead F s (d ∷ ds) (f ∷ fs) ≡ ahead F (stored s d f) ds fs
   unfolding ahead
   ahead-waits =
-      rw (one-more, stored-option a, stored-next a, stored-least a, stored-docs a, stored-freqs a, append-snoc, append-snoc, as-many)
+      rw (one-more, stored-option a, stored-next a, stored-least a, stored-docs a, stored-freqs a, append-snoc (waitingDocs s) d ds, append-snoc (waitingFreqs s) f fs, as-many)
 
   ahead-filled : s .waiting ≡ 127
       → ahead F (filled s d f) ds fs
@@ -154,4 +154,4 @@ room blocks s skips postings = and (fitsAt (s .«skips_at») (blocks .skips) ski
 pub room-none : {s : PostingsSerializer} {skips postings : List ℕ} → Held s skips postings
     → room (record { skips = []; postings = [] }) s skips postings ≡ true
 unfolding fitsAt
-room-none h = rw (add-zero, add-zero, le-leb _ _ (h .skips-within), le-leb _ _ (h .postings-within))
+room-none {s} h = rw (add-zero (s .«skips_at»), add-zero (s .«postings_at»), le-leb _ _ (h .skips-within), le-leb _ _ (h .postings-within))

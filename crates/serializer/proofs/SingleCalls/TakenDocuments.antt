@@ -22,7 +22,8 @@ use Rattle.serializer.specs.Writer.{Areas, fresh, optionOf, taking, clos
 use Rattle.serializer.proofs.document.OneDocument.{nextLeast, call-refused}
 use Rattle.serializer.proofs.SingleCalls.BlocksAhead.{room}
 use Rattle.serializer.proofs.SingleCalls.AllDocuments.{Ended, Answers, answers-room, answers-ok, answers-taken}
-use Rattle.serializer.proofs.SingleCalls.WritesList.{acceptedBlocks, accepted-all, fresh-option, fresh-next, answers, ended-areas, ended-closes}
+use Rattle.serializer.specs.Lists.{acceptedBlocks}
+use Rattle.serializer.proofs.SingleCalls.WritesList.{accepted-all, fresh-option, fresh-next, answers, ended-areas, ended-closes}
 
 -- ---- one more at the end
 
@@ -121,7 +122,7 @@ module _ (mode : ℕ) (recording : Bool) (skips postings : List ℕ) (known : mo
           (takeAll (fresh mode recording) ds′ fs′ skips postings)
       unfolding andThen
       longer-calls e =
-          accepted-calls ds′ fs′ (below-last (2 ^ 32) fs f small below) (rw (length-append, length-append, as-many))
+          accepted-calls ds′ fs′ (below-last (2 ^ 32) fs f small below) (rw (length-append ds (d ∷ []), length-append fs (f ∷ []), as-many))
           (rw (docs-last option 0 ds fs d f as-many, t) e)
 
       room-for : {next : ℕ} → takeDoc option least d f ≡ ok next → (b : Bool) → blocksFit option ds′ fs′ skips postings ≡ b

@@ -6,7 +6,7 @@ use mathlib.Core.Bool.{Bool, true, false, and-false}
 use mathlib.Core.List.{List, [], _∷_, _++_, append-nil}
 use mathlib.Core.Logic.{_≢_, _⊎_, inl, inr}
 use mathlib.Core.Path.{_≡_, refl, sym, _∙_}
-use Prim.Native.Nat.{ℕ, suc, _+_, _/_, _≤_, _<_, _^_}
+use Prim.Native.Nat.{ℕ, suc, _+_, _-_, _/_, _≤_, _<_, _^_}
 use native.Mathlib.Nat.{zero-add, le-trans}
 use native.Mathlib.Numerals.{one-add}
 use native.Mathlib.Omega.{arith}
@@ -17,38 +17,19 @@ use Rattle.format.specs.declared.IndexRecordOption.{IndexRecordOption}
 use Rattle.format.specs.Basics.{Outcome, ok, refused, andThen, ask, putAt, fitsAt, AllBelow, orBefore}
 use Rattle.format.specs.Refusal.{noRoom, countMismatch, stateBroken}
 use Rattle.format.specs.Values.{rising, countable}
-use Rattle.format.specs.Written.{Parts, headed, image}
+use Rattle.format.specs.Written.{Parts, blocksOf, tailOf, imageWith, image}
 use Rattle.format.specs.Accepted.{keptIn, begin, takeDoc, takeDocs, written}
 use Rattle.format.proofs.Outcome.{refused≢ok, andThen-ok}
-use Rattle.format.proofs.Opened.{image-is}
+use Rattle.format.proofs.ImageParts.{headed, image-is}
 use Rattle.format.proofs.Accepted.{written-ok}
 use Rattle.serializer.specs.declared.PostingsSerializer.{PostingsSerializer}
-use Rattle.serializer.specs.Writer.{Areas, tailOf, fresh, optionOf, waitingDocs, waitingFreqs, firstLeast, leastAfter}
-use Rattle.serializer.specs.Writer.{inBounds, imageOf, closing, takeAll, acceptedCount, blocksOf}
+use Rattle.serializer.specs.Lists.{acceptedBlocks, WritesList}
+use Rattle.serializer.specs.Writer.{Areas, fresh, optionOf, waitingDocs, waitingFreqs, firstLeast, leastAfter}
+use Rattle.serializer.specs.Writer.{inBounds, imageOf, closing, takeAll, acceptedCount}
 use Rattle.serializer.proofs.list.Blocks.{blocks-fewer}
 use Rattle.serializer.proofs.document.OneDocument.{nextLeast, Held, in-bounds}
 use Rattle.serializer.proofs.SingleCalls.BlocksAhead.{Maker, ahead, room}
 use Rattle.serializer.proofs.SingleCalls.AllDocuments.{Ended, Answers, answers-room, answers-refused, answers-ok, all-calls}
-
--- the full blocks of the documents that are accepted at a list's front
-abbrev pub acceptedBlocks : ℕ → Bool → List ℕ → List ℕ → Parts
-acceptedBlocks mode recording ds fs =
-    let option : IndexRecordOption = keptIn mode recording in
-    blocksOf option (acceptedCount option 0 ds fs / 128) 0 ds fs
-
--- What single calls leave of a list that is written as `image`: its full blocks and their entries at the front of the areas, every
--- other byte as before. Closing under the list's count gives the image if it fits the output
-pub record WritesList (mode : ℕ) (recording : Bool) (ds fs skips postings image : List ℕ) : Type 0 where
-  pub areas : Areas
-  pub takes : takeAll (fresh mode recording) ds fs skips postings ≡ ok areas
-  pub skips-after : areas .skips ≡ putAt 0 (blocksOf (keptIn mode recording) (length ds / 128) 0 ds fs .skips) skips
-  pub postings-after : areas .postings ≡ putAt 0 (blocksOf (keptIn mode recording) (length ds / 128) 0 ds fs .postings) postings
-  pub closes : (output : List ℕ) → length image ≤ length output
-      → closing (areas .state) (length ds) (areas .skips) (areas .postings) output ≡ ok image
-  pub no-room : (output : List ℕ) → length output < length image
-      → closing (areas .state) (length ds) (areas .skips) (areas .postings) output ≡ refused noRoom
-  pub miscounted : (announced : ℕ) (output : List ℕ) → announced ≢ length ds
-      → closing (areas .state) announced (areas .skips) (areas .postings) output ≡ refused countMismatch
 
 -- ---- the definitions, opened by one turn
 
@@ -64,9 +45,9 @@ imageOf-is : (s : PostingsSerializer) (skips postings : List ℕ)
     → imageOf s skips postings
     ≡ headed (s .taken / 128) (record {
       skips = take (s .«skips_at») skips;
-      postings = take (s .«postings_at») postings ++ tailOf (optionOf s) (firstLeast s) (waitingDocs s) (waitingFreqs s);
+      postings = take (s .«postings_at») postings ++ tailOf (optionOf s) (firstLeast s - 1) (waitingDocs s) (waitingFreqs s);
     })
-unfolding imageOf
+unfolding imageOf imageWith headed
 imageOf-is s skips postings = refl
 
 -- ---- how many documents are accepted
@@ -170,13 +151,13 @@ module _ (mode : ℕ) (recording : Bool) (ds fs skips postings : List ℕ) (smal
   room-there : length (blocks .skips) ≤ length skips → length (blocks .postings) ≤ length postings
       → room blocks (fresh mode recording) skips postings ≡ true
   unfolding fresh fitsAt
-  room-there a b = rw (zero-add, zero-add, le-leb _ _ a, le-leb _ _ b)
+  room-there a b = rw (zero-add (length (blocks .skips)), zero-add (length (blocks .postings)), le-leb _ _ a, le-leb _ _ b)
 
   room-missing : (length skips < length (blocks .skips)) ⊎ (length postings < length (blocks .postings))
       → room blocks (fresh mode recording) skips postings ≡ false
   unfolding fresh fitsAt
-  room-missing (inl a) = rw (zero-add, lt-leb _ _ a)
-  room-missing (inr b) = rw (zero-add, zero-add, lt-leb _ _ b, and-false)
+  room-missing (inl a) = rw (zero-add (length (blocks .skips)), lt-leb _ _ a)
+  room-missing (inr b) = rw (zero-add (length (blocks .skips)), zero-add (length (blocks .postings)), lt-leb _ _ b, and-false)
 
   module _ {r : Outcome Areas} (ended : Ended (fresh mode recording) ds fs skips postings r)
       (all : acceptedCount option 0 ds fs ≡ length ds) where

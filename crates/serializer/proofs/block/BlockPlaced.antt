@@ -1,7 +1,7 @@
 -- Laws of a block and its entry in their areas: a part that is lent from a place on and put back with bytes at its front is the
 -- whole with the bytes at that place; packed values that fit are put whole, and one part behind the other they are both put.
 -- Assumes nothing.
-use mathlib.Core.Path.{_≡_, refl, ap₂, _∙_}
+use mathlib.Core.Path.{_≡_, refl, ap, ap₂, _∙_}
 use mathlib.Core.Bool.{Bool, true, false, _&&_ as and, and-eq-true-iff}
 use mathlib.Core.List.{List, [], _∷_, _++_, append-nil}
 use Prim.Native.Nat.{ℕ, suc, _+_, _-_, _*_, _^_, _≤_, _<_, suc-le-suc}
@@ -16,15 +16,13 @@ use Rattle.format.specs.declared.IndexRecordOption.the-variants.{Basic, WithFre
 use Rattle.format.specs.Basics.{choose, tabulate, tabulateFrom, lastOf, fitsAt, putAt}
 use Rattle.format.specs.Bitpacking.{pack, bitsF, largest, width}
 use Rattle.format.specs.Values.{gaps, reduced, rising}
-use Rattle.format.specs.Written.{onlyIf}
+use Rattle.format.specs.Written.{onlyIf, docValues, freqValues, entryOf, blockOf}
 use Rattle.format.specs.SkipEntry.{hasFreq, entrySize, writeEntry}
 use Rattle.bitpacking.specs.Packed.{roomFor, Packed}
 use Rattle.skip.specs.Entry.{entryPut}
-use Rattle.serializer.specs.declared.Placed.{Placed}
-use Rattle.serializer.specs.declared.Placed.the-variants.{At, NoRoom}
-use Rattle.serializer.specs.Calls.{BlockWritten, blockFits}
-use Rattle.serializer.specs.Pieces.{BlockFits, BlockPut}
-use Rattle.serializer.specs.Writer.{docValues, freqValues, entryOf, blockOf}
+use Rattle.serializer.specs.declared.block.Placed.the-variants.{At, NoRoom}
+use Rattle.serializer.specs.declared.block.Places.{Places}
+use Rattle.serializer.specs.Pieces.{BlockFits, BlockPut, BlockWritten, blockFits}
 use Rattle.format.proofs.Area.{putAt-append}
 use Rattle.format.proofs.Bitpacking.{pack-length, width-le, width-least}
 use Rattle.format.proofs.Lists.{allBelow-le}
@@ -80,19 +78,21 @@ unfolding entryPut choose
 entry-put option last dw fw p area narrow = rw (lt-ltb dw 32 narrow)
 
 -- a block's values and its entry, put one behind the other
-pub block-put : (option : IndexRecordOption) (last dw fw p q : ℕ) (dv fv skips postings : List ℕ) {skips′ middle postings′ : List ℕ} {n a b : ℕ}
-    → BlockFits option dw fw p q skips postings → n ≡ entrySize option → a ≡ 16 * dw → b ≡ 16 * fw
-    → skips′ ≡ entryPut option last dw fw p skips → middle ≡ putAt q (pack dw dv) postings → postings′ ≡ putAt (q + a) (pack fw fv) middle
-    → BlockPut (writeEntry option last dw fw) (pack dw dv ++ pack fw fv) p q skips postings skips′ postings′ (At (p + n) (q + a + b))
-block-put option last dw fw p q dv fv skips postings fits n-is a-is b-is entry docs freqs =
+pub block-put : (option : IndexRecordOption) (last dw fw : ℕ) (at : Places) (dv fv skips postings : List ℕ) {skips′ middle postings′ : List ℕ} {n a b : ℕ}
+    → BlockFits option dw fw at skips postings → n ≡ entrySize option → a ≡ 16 * dw → b ≡ 16 * fw
+    → skips′ ≡ entryPut option last dw fw (at .skips) skips → middle ≡ putAt (at .postings) (pack dw dv) postings
+    → postings′ ≡ putAt (at .postings + a) (pack fw fv) middle
+    → BlockPut (writeEntry option last dw fw) (pack dw dv ++ pack fw fv) at skips postings skips′ postings′
+    (record { skips = at .skips + n; postings = at .postings + a + b })
+block-put option last dw fw at dv fv skips postings fits n-is a-is b-is entry docs freqs =
     let docs-length = pack-length dw dv in
     let freqs-length = pack-length fw fv in
     let both = length-append (pack dw dv) (pack fw fv) in
-    let room : q + length (pack dw dv ++ pack fw fv) ≤ length postings = omega (arith, fits .postings-room) in
+    let room : at .postings + length (pack dw dv ++ pack fw fv) ≤ length postings = omega (arith, fits .postings-room) in
     record {
-      placed = ap₂ At (rw (n-is, entry-length)) (omega arith);
-      skips-after = entry ∙ entry-put option last dw fw p skips (fits .doc-width);
-      postings-after = freqs ∙ rw (docs, a-is, ← docs-length) (putAt-append q (pack dw dv) (pack fw fv) postings room);
+      placed = ap₂ (λ (p q : ℕ). record { skips = p; postings = q }) (rw (n-is, entry-length)) (omega arith);
+      skips-after = entry ∙ entry-put option last dw fw (at .skips) skips (fits .doc-width);
+      postings-after = freqs ∙ rw (docs, a-is, ← docs-length) (putAt-append (at .postings) (pack dw dv) (pack fw fv) postings room);
     }
 
 -- ---- a block's own values
@@ -117,10 +117,10 @@ module _ (option : IndexRecordOption) (least : ℕ) (ds fs : List ℕ) where
       omega (arith, length-append (pack (width dv) dv) (pack (width fv) fv), pack-length (width dv) dv, pack-length (width fv) fv)
 
   -- where one of them doesn't fit, nothing is written
-  pub block-refused : (p q : ℕ) (skips postings : List ℕ) → blockFits option least ds fs p q skips postings ≡ false
-      → BlockWritten option least ds fs p q skips postings skips postings NoRoom
+  pub block-refused : (at : Places) (skips postings : List ℕ) → blockFits option least ds fs at skips postings ≡ false
+      → BlockWritten option least ds fs at skips postings skips postings NoRoom
   unfolding choose
-  block-refused p q skips postings short = record { placed = rw short; skips-after = rw short; postings-after = rw short }
+  block-refused at skips postings short = record { placed = rw short; skips-after = rw short; postings-after = rw short }
 
   -- values and widths as code has them
   pub record Valued (dv fv : List ℕ) (dw fw : ℕ) : Type 0 where
@@ -145,25 +145,25 @@ module _ (option : IndexRecordOption) (least : ℕ) (ds fs : List ℕ) where
     unfolding blockOf
     valued-block = rw (v .docs, v .freqs, v .doc-width, v .freq-width, freqs-pack option fs)
 
-    module _ (p q : ℕ) (skips postings : List ℕ) where
+    module _ (at : Places) (skips postings : List ℕ) where
       -- whether both fit is told from the option and the widths
-      pub valued-fits : blockFits option least ds fs p q skips postings
-          ≡ and (leb (p + entrySize option) (length skips)) (leb (q + 16 * (dw + fw)) (length postings))
+      pub valued-fits : blockFits option least ds fs at skips postings
+          ≡ and (leb (at .skips + entrySize option) (length skips)) (leb (at .postings + 16 * (dw + fw)) (length postings))
       unfolding blockFits
       valued-fits = rw (entryOf-length, blockOf-length, v .doc-width, v .freq-width)
 
       pub valued-room : rising least ds ≡ true
-          → and (leb (p + entrySize option) (length skips)) (leb (q + 16 * (dw + fw)) (length postings)) ≡ true
-          → BlockFits option dw fw p q skips postings
+          → and (leb (at .skips + entrySize option) (length skips)) (leb (at .postings + 16 * (dw + fw)) (length postings)) ≡ true
+          → BlockFits option dw fw at skips postings
       valued-room r room =
           let narrow = valued-narrow r in
-          let both = and-eq-true-iff (leb (p + entrySize option) (length skips)) (leb (q + 16 * (dw + fw)) (length postings)) .0 room in
+          let both = and-eq-true-iff (leb (at .skips + entrySize option) (length skips)) (leb (at .postings + 16 * (dw + fw)) (length postings)) .0 room in
           record { doc-width = narrow .0; freq-width = narrow .1; skips-room = leb-true _ _ (both .0); postings-room = leb-true _ _ (both .1) }
 
-      pub block-written : {skips′ postings′ : List ℕ} {r : Placed} {last : ℕ} → blockFits option least ds fs p q skips postings ≡ true → last ≡ lastOf 0 ds
-          → BlockPut (writeEntry option last dw fw) (pack dw dv ++ pack fw fv) p q skips postings skips′ postings′ r
-          → BlockWritten option least ds fs p q skips postings skips′ postings′ r
+      pub block-written : {skips′ postings′ : List ℕ} {r : Places} {last : ℕ} → blockFits option least ds fs at skips postings ≡ true → last ≡ lastOf 0 ds
+          → BlockPut (writeEntry option last dw fw) (pack dw dv ++ pack fw fv) at skips postings skips′ postings′ r
+          → BlockWritten option least ds fs at skips postings skips′ postings′ (At r)
       unfolding choose
       block-written room last-is put =
           let own = rw (valued-entry last-is, valued-block) at put in
-          record { placed = rw room (own .placed); skips-after = rw room (own .skips-after); postings-after = rw room (own .postings-after) }
+          record { placed = rw room (ap At (own .placed)); skips-after = rw room (own .skips-after); postings-after = rw room (own .postings-after) }

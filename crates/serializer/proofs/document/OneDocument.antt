@@ -2,7 +2,7 @@
 -- than its place in the list, so that one that is accepted can still be counted. A document is refused as the definitions refuse
 -- it; or it waits; or it fills a block, which goes into the areas where there is room.
 -- Assumes nothing.
-use mathlib.Core.Bool.{Bool, true, false, not, _&&_ as and, _||_ as or}
+use mathlib.Core.Bool.{true, not, _&&_ as and, _||_ as or}
 use mathlib.Core.List.{List, [], _∷_, _++_, append-nil}
 use mathlib.Core.Path.{_≡_, refl, sym, _∙_}
 use Prim.Native.Nat.{ℕ, suc, _+_, _≤_, _<_, _^_}
@@ -19,10 +19,12 @@ use Rattle.format.specs.Values.{rising, countable}
 use Rattle.format.specs.SkipEntry.{hasFreq}
 use Rattle.format.specs.Accepted.{takeDoc}
 use Rattle.format.proofs.Accepted.{Taken, takeDoc-ok}
+use Rattle.format.proofs.Choice.{granted}
 use Rattle.format.proofs.Values.{rising-append, countable-append}
 use Rattle.serializer.specs.declared.PostingsSerializer.{PostingsSerializer}
-use Rattle.serializer.specs.Writer.{entryOf, blockOf, optionOf, waitingDocs, waitingFreqs, firstLeast, leastAfter}
-use Rattle.serializer.specs.Writer.{inBounds, stored, finished, taking}
+use Rattle.format.specs.Written.{entryOf, blockOf}
+use Rattle.serializer.specs.Writer.{optionOf, waitingDocs, waitingFreqs, firstLeast, leastAfter}
+use Rattle.serializer.specs.Writer.{inBounds, stored, emptied, finished, taking}
 use Rattle.serializer.proofs.list.Blocks.{leastAfter-append, leastAfter-last}
 
 -- the least id that the next document may have
@@ -53,23 +55,14 @@ pub accepts : {s : PostingsSerializer} {skips postings : List ℕ} → Held s sk
 accepts {s} h d f small e =
     record { held = h; small = small; accepted = rw (takeDoc-ok (optionOf s) (nextLeast s) d f e .next-is) at e }
 
--- the state behind a block that is finished
-unfoldable pub emptied : PostingsSerializer → ℕ → PostingsSerializer
-emptied s least = record {
-  docs = s .docs;
-  freqs = s .freqs;
-  mode = s .mode;
-  recording = s .recording;
-  waiting = 0;
-  «last_doc» = lastOf 0 (s .docs);
-  taken = s .taken;
-  «skips_at» = s .«skips_at» + length (entryOf (optionOf s) least (s .docs) (s .freqs));
-  «postings_at» = s .«postings_at» + length (blockOf (optionOf s) least (s .docs) (s .freqs));
-}
-
--- .. by the document d
+-- the state behind the block that the document d fills
 abbrev pub filled : PostingsSerializer → ℕ → ℕ → PostingsSerializer
-filled s d f = emptied (stored s d f) (firstLeast s)
+filled s d f =
+    let t : PostingsSerializer = stored s d f in
+    emptied t (record {
+      skips = t .«skips_at» + length (entryOf (optionOf t) (firstLeast s) (t .docs) (t .freqs));
+      postings = t .«postings_at» + length (blockOf (optionOf t) (firstLeast s) (t .docs) (t .freqs));
+    })
 
 -- ---- the definitions, opened by one turn
 
@@ -90,11 +83,11 @@ finished-is : (s : PostingsSerializer) (least : ℕ) (skips postings : List ℕ)
     let block : List ℕ = blockOf (optionOf s) least (s .docs) (s .freqs) in
     ask (and (fitsAt (s .«skips_at») entry skips) (fitsAt (s .«postings_at») block postings)) noRoom λ _.
     ok (record {
-      state = emptied s least;
+      state = emptied s (record { skips = s .«skips_at» + length entry; postings = s .«postings_at» + length block });
       skips = putAt (s .«skips_at») entry skips;
       postings = putAt (s .«postings_at») block postings;
     }))
-unfolding finished emptied
+unfolding finished
 finished-is s least skips postings = refl
 
 taking-is : (s : PostingsSerializer) (d f : ℕ) (skips postings : List ℕ)
@@ -108,14 +101,10 @@ taking-is : (s : PostingsSerializer) (d f : ℕ) (skips postings : List ℕ)
 unfolding taking
 taking-is s d f skips postings = refl
 
-either : (a b : Bool) → (a ≡ true → b ≡ true) → or (not a) b ≡ true
-either true b h = h refl
-either false b h = refl
-
 pub in-bounds : {s : PostingsSerializer} {skips postings : List ℕ} → Held s skips postings → inBounds s skips postings ≡ true
 in-bounds {s} h =
     let counted = le-leb (s .taken) TERMINATED (omega arith) in
-    rw (inBounds-is, le-leb _ _ (h .few), h .rises, either _ _ (h .counts), counted, le-leb _ _ (h .skips-within))
+    rw (inBounds-is, le-leb _ _ (h .few), h .rises, granted _ _ (h .counts), counted, le-leb _ _ (h .skips-within))
     (rw (le-leb _ _ (h .postings-within), le-leb _ _ (h .mode-known)))
 
 -- ---- one more id that rises, one more frequency that counts
@@ -162,7 +151,7 @@ module _ {s : PostingsSerializer} {skips postings : List ℕ} {d f : ℕ} (a : A
 
   pub stored-least : firstLeast (stored s d f) ≡ firstLeast s
   unfolding firstLeast stored
-  stored-least = rw (add-one, add-one, leb·suc-suc)
+  stored-least = rw (add-one (s .waiting), add-one (s .taken), leb·suc-suc)
 
   pub stored-docs : waitingDocs (stored s d f) ≡ waitingDocs s ++ (d ∷ [])
   unfolding waitingDocs stored

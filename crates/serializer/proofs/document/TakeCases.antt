@@ -21,11 +21,13 @@ use Rattle.format.proofs.Values.{rising-append, rising-last}
 use Rattle.serializer.specs.declared.PostingsSerializer.{PostingsSerializer}
 use Rattle.serializer.specs.declared.Accepted.{Accepted}
 use Rattle.serializer.specs.declared.Accepted.the-variants.{Yes, Refused}
-use Rattle.serializer.specs.declared.Placed.{Placed}
-use Rattle.serializer.specs.declared.Placed.the-variants.{At, NoRoom}
-use Rattle.serializer.specs.Calls.{accepted, Settled, BlockWritten, blockFits}
-use Rattle.serializer.specs.Pieces.{asking, emptied}
-use Rattle.serializer.specs.Writer.{Areas, boundsHold, inBounds, optionOf, firstLeast, leastAfter, waitingDocs, stored, entryOf, blockOf, finished, taking}
+use Rattle.serializer.specs.declared.block.Placed.{Placed}
+use Rattle.serializer.specs.declared.block.Placed.the-variants.{At, NoRoom}
+use Rattle.serializer.specs.declared.block.Places.{Places}
+use Rattle.serializer.specs.Calls.{accepted, Settled}
+use Rattle.serializer.specs.Pieces.{asking, behindBoth, BlockWritten, blockFits}
+use Rattle.format.specs.Written.{entryOf, blockOf}
+use Rattle.serializer.specs.Writer.{Areas, boundsHold, inBounds, optionOf, firstLeast, leastAfter, waitingDocs, stored, finished, taking, emptied}
 use Rattle.serializer.proofs.block.BlockPlaced.{last-at}
 use Rattle.serializer.proofs.bounds.Question16.{few, waiting-rises}
 
@@ -183,15 +185,15 @@ module _ (s : PostingsSerializer) (d f : ℕ) (skips postings : List ℕ) where
 -- ---- what finishing a block leaves
 
 -- the answer of `write_block` says whether the block had room
-no-room : (t : Bool) (p q : ℕ) → NoRoom ≡ choose t (λ _. At p q) (λ _. NoRoom) → t ≡ false
+no-room : (t : Bool) (at : Places) → NoRoom ≡ choose t (λ _. At at) (λ _. NoRoom) → t ≡ false
 unfolding choose
-no-room true p q e = absurd (let z : _≡_ {A = ℕ} 0 1 = cc in omega arith)
-no-room false p q e = refl
+no-room true at e = absurd (let z : _≡_ {A = ℕ} 0 1 = cc in omega arith)
+no-room false at e = refl
 
-had-room : (t : Bool) (p q : ℕ) {p′ q′ : ℕ} → At p′ q′ ≡ choose t (λ _. At p q) (λ _. NoRoom) → (t ≡ true) × (p′ ≡ p) × (q′ ≡ q)
+had-room : (t : Bool) (at : Places) {at′ : Places} → At at′ ≡ choose t (λ _. At at) (λ _. NoRoom) → (t ≡ true) × (at′ ≡ at)
 unfolding choose
-had-room true p q e = (refl, cc, cc)
-had-room false p q e = absurd (let z : _≡_ {A = ℕ} 0 1 = cc in omega arith)
+had-room true at e = (refl, cc)
+had-room false at e = absurd (let z : _≡_ {A = ℕ} 0 1 = cc in omega arith)
 
 pub settled-refused : (s : PostingsSerializer) (skips postings : List ℕ) {o : Outcome Areas} {n : ℕ} → o ≡ refused n
     → Settled o s skips postings skips postings (record { answer = Refused n; state = s })
@@ -210,32 +212,35 @@ module _ (full : PostingsSerializer) (least : ℕ) (skips postings : List ℕ) w
   abbrev block : List ℕ
   block = blockOf (optionOf full) least (full .docs) (full .freqs)
 
+  abbrev at : Places
+  at = record { skips = full .«skips_at»; postings = full .«postings_at» }
+
   abbrev fits : Bool
-  fits = blockFits (optionOf full) least (full .docs) (full .freqs) (full .«skips_at») (full .«postings_at») skips postings
+  fits = blockFits (optionOf full) least (full .docs) (full .freqs) at skips postings
 
   abbrev Written : (skips′ postings′ : List ℕ) → Placed → Type 0
-  Written skips′ postings′ r = BlockWritten (optionOf full) least (full .docs) (full .freqs) (full .«skips_at») (full .«postings_at») skips postings skips′ postings′ r
+  Written skips′ postings′ r = BlockWritten (optionOf full) least (full .docs) (full .freqs) at skips postings skips′ postings′ r
 
   finished-is : finished full least skips postings
       ≡ (ask fits noRoom λ _.
       ok (record {
-        state = emptied full (full .«skips_at» + length entry) (full .«postings_at» + length block);
+        state = emptied full (behindBoth entry block at);
         skips = putAt (full .«skips_at») entry skips;
         postings = putAt (full .«postings_at») block postings;
       }))
-  unfolding finished blockFits emptied
+  unfolding finished blockFits
   finished-is = refl
 
   pub finish-refused : (s : PostingsSerializer) {skips′ postings′ : List ℕ} → Written skips′ postings′ NoRoom
       → Settled (finished full least skips postings) s skips postings skips′ postings′ (record { answer = Refused noRoom; state = s })
   unfolding ask choose
   finish-refused s w =
-      let short = no-room fits _ _ (w .placed) in
+      let short = no-room fits _ (w .placed) in
       rw (w .skips-after, w .postings-after, short) (settled-refused s skips postings (rw (finished-is, short)))
 
-  pub finish-done : (s : PostingsSerializer) {skips′ postings′ : List ℕ} {p q : ℕ} → Written skips′ postings′ (At p q)
-      → Settled (finished full least skips postings) s skips postings skips′ postings′ (record { answer = Yes; state = emptied full p q })
+  pub finish-done : (s : PostingsSerializer) {skips′ postings′ : List ℕ} {next : Places} → Written skips′ postings′ (At next)
+      → Settled (finished full least skips postings) s skips postings skips′ postings′ (record { answer = Yes; state = emptied full next })
   unfolding ask choose
   finish-done s w =
-      let room = had-room fits _ _ (w .placed) in
-      rw (w .skips-after, w .postings-after, room .0, room .1, room .2) (settled-ok s skips postings (rw (finished-is, room .0)))
+      let room = had-room fits _ (w .placed) in
+      rw (w .skips-after, w .postings-after, room .0, room .1) (settled-ok s skips postings (rw (finished-is, room .0)))

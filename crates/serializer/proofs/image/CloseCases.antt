@@ -9,19 +9,19 @@ use lib.ListN.{length, take}
 use borrow.Author.Tests.{eq-eqb, ne-eqb, leb-false}
 use Rattle.format.specs.Basics.{ok, refused, ask, choose, fitsAt, orBefore}
 use Rattle.format.specs.Refusal.{countMismatch, noRoom, stateBroken}
-use Rattle.format.specs.Values.{gaps, reduction, origin}
+use Rattle.format.specs.Written.{imageWith}
 use Rattle.format.proofs.Area.{putAt-refused}
 use Rattle.serializer.specs.declared.PostingsSerializer.{PostingsSerializer}
 use Rattle.serializer.specs.declared.Written.the-variants.{Bytes, Refused}
-use Rattle.serializer.specs.Calls.{answered, imageWith, Closed, ImagePut}
-use Rattle.serializer.specs.Pieces.{tailWith}
-use Rattle.serializer.specs.Writer.{fresh, inBounds, optionOf, firstLeast, waitingDocs, waitingFreqs, tailOf, imageOf, closing}
+use Rattle.serializer.specs.Pieces.{ImagePut}
+use Rattle.serializer.specs.Calls.{answered, Closed}
+use Rattle.serializer.specs.Writer.{fresh, inBounds, optionOf, firstLeast, waitingDocs, waitingFreqs, imageOf, closing}
 
 -- the image of a state, by its parts: a tail's differences begin at the id before the least that may come
 pub image-of : (s : PostingsSerializer) (skips postings : List ℕ)
     → imageOf s skips postings
     ≡ imageWith (s .taken / 128) (take (s .«skips_at») skips) (take (s .«postings_at») postings) (optionOf s) (firstLeast s - 1) (waitingDocs s) (waitingFreqs s)
-unfolding imageOf imageWith tailOf tailWith gaps reduction origin
+unfolding imageOf
 image-of s skips postings = refl
 
 -- what an answer says of whether the image fits

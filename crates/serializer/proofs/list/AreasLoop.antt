@@ -12,14 +12,16 @@ use borrow.Author.Tests.{le-leb}
 use lib.ListN.{length, getD, take, drop, length-append}
 use Rattle.format.specs.declared.IndexRecordOption.{IndexRecordOption}
 use Rattle.format.specs.Basics.{choose, fitsAt, putAt}
-use Rattle.format.specs.Written.{Parts}
+use Rattle.format.specs.Written.{Parts, entryOf, blockOf, blocksOf}
 use Rattle.format.proofs.Area.{length-putAt, putAt-nil, putAt-append}
-use Rattle.serializer.specs.declared.Placed.{Placed}
-use Rattle.serializer.specs.declared.Placed.the-variants.{At, NoRoom}
-use Rattle.serializer.specs.Calls.{BlockWritten, blockFits}
+use Rattle.serializer.specs.declared.block.Placed.{Placed}
+use Rattle.serializer.specs.declared.block.Placed.the-variants.{At, NoRoom}
+use Rattle.serializer.specs.declared.block.Places.{Places}
+use Rattle.serializer.specs.Pieces.{BlockWritten, blockFits}
 use Rattle.serializer.specs.Whole.{fullBlocks, blocksFit, BlocksPut}
-use Rattle.serializer.specs.Writer.{entryOf, blockOf, leastAfter, blocksOf}
-use Rattle.serializer.proofs.list.Blocks.{blocksOf-zero, blocks-next, blocks-fewer}
+use Rattle.serializer.specs.Writer.{leastAfter}
+use Rattle.format.proofs.ImageParts.{blocksOf-zero}
+use Rattle.serializer.proofs.list.Blocks.{blocks-next, blocks-fewer}
 use Rattle.serializer.proofs.Laws.BlockPlaces.{least-next, blocks-room}
 
 -- bytes go behind those at an area's front
@@ -34,15 +36,15 @@ module _ (a b area : List ℕ) (h : length (a ++ b) ≤ length area) where
   behind-put = rw zero-add at (putAt-append 0 a b area (omega arith))
 
 module _ (option : IndexRecordOption) (ds fs skips₀ postings₀ : List ℕ) where
-  -- n blocks are written, up to the places p and q
-  pub record Written (n least p q : ℕ) (skips postings : List ℕ) : Type 0 where
+  -- n blocks are written, up to these places
+  pub record Written (n least : ℕ) (at : Places) (skips postings : List ℕ) : Type 0 where
     pub least-is : least ≡ leastAfter 0 (take (128 * n) ds)
-    pub skips-at : p ≡ length (blocksOf option n 0 ds fs .skips)
-    pub postings-at : q ≡ length (blocksOf option n 0 ds fs .postings)
+    pub skips-at : at .skips ≡ length (blocksOf option n 0 ds fs .skips)
+    pub postings-at : at .postings ≡ length (blocksOf option n 0 ds fs .postings)
     pub skips-are : skips ≡ putAt 0 (blocksOf option n 0 ds fs .skips) skips₀
     pub postings-are : postings ≡ putAt 0 (blocksOf option n 0 ds fs .postings) postings₀
 
-  pub written-none : Written 0 0 0 0 skips₀ postings₀
+  pub written-none : Written 0 0 (record { skips = 0; postings = 0 }) skips₀ postings₀
   unfolding leastAfter
   written-none = record {
     least-is = refl;
@@ -52,12 +54,12 @@ module _ (option : IndexRecordOption) (ds fs skips₀ postings₀ : List ℕ) wh
     postings-are = rw blocksOf-zero (sym (putAt-nil 0 postings₀));
   }
 
-  pub written-all : {n least p q : ℕ} {skips postings : List ℕ} → n ≡ length ds / 128 → Written n least p q skips postings
+  pub written-all : {n least : ℕ} {at : Places} {skips postings : List ℕ} → n ≡ length ds / 128 → Written n least at skips postings
       → BlocksPut option ds fs skips₀ postings₀ skips postings
   unfolding fullBlocks
   written-all e w = record { skips-after = rw e at (w .skips-are); postings-after = rw e at (w .postings-are) }
 
-  module _ {n least p q : ℕ} {skips postings : List ℕ} (w : Written n least p q skips postings) where
+  module _ {n least : ℕ} {at : Places} {skips postings : List ℕ} (w : Written n least at skips postings) where
     pub skips-kept : length skips ≡ length skips₀
     skips-kept = rw (w .skips-are) (length-putAt 0 _ skips₀)
 
@@ -66,7 +68,7 @@ module _ (option : IndexRecordOption) (ds fs skips₀ postings₀ : List ℕ) wh
 
     module _ (more : n < length ds / 128) (fits : blocksFit option ds fs skips₀ postings₀ ≡ true)
         {skips′ postings′ : List ℕ} {r : Placed}
-        (b : BlockWritten option least (take 128 (drop (128 * n) ds)) (take 128 (drop (128 * n) fs)) p q skips postings skips′ postings′ r) where
+        (b : BlockWritten option least (take 128 (drop (128 * n) ds)) (take 128 (drop (128 * n) fs)) at skips postings skips′ postings′ r) where
       abbrev so-far : Parts
       so-far = blocksOf option n 0 ds fs
 
@@ -87,18 +89,19 @@ module _ (option : IndexRecordOption) (ds fs skips₀ postings₀ : List ℕ) wh
           let within = rw next at (blocks-fewer option (n + 1) (length ds / 128) 0 ds fs (omega arith) (omega arith)) in
           (omega arith, omega arith)
 
-      fit : blockFits option least (take 128 (drop (128 * n) ds)) (take 128 (drop (128 * n) fs)) p q skips postings ≡ true
+      fit : blockFits option least (take 128 (drop (128 * n) ds)) (take 128 (drop (128 * n) fs)) at skips postings ≡ true
       unfolding blockFits
       fit = rw (w .skips-at, w .postings-at, w .skips-are, w .postings-are, behind-fits (so-far .skips) entry skips₀ (room .0), behind-fits (so-far .postings) block postings₀ (room .1))
 
-      placed : r ≡ At (length (blocksOf option (n + 1) 0 ds fs .skips)) (length (blocksOf option (n + 1) 0 ds fs .postings))
+      placed : r
+          ≡ At (record { skips = length (blocksOf option (n + 1) 0 ds fs .skips); postings = length (blocksOf option (n + 1) 0 ds fs .postings) })
       unfolding choose
       placed = rw (b .placed, fit, next, w .skips-at, w .postings-at) (simp length-append)
 
       pub not-refused : r ≡ NoRoom → ⊥
       not-refused e = let never : _≡_ {A = ℕ} 0 1 = cc placed in omega arith
 
-      pub written-next : {p′ q′ : ℕ} → r ≡ At p′ q′ → Written (n + 1) (getD ds (128 * n + 127) 0 + 1) p′ q′ skips′ postings′
+      pub written-next : {next : Places} → r ≡ At next → Written (n + 1) (getD ds (128 * n + 127) 0 + 1) next skips′ postings′
       unfolding choose
       written-next e = record {
         least-is = sym (least-next n ds (omega arith));

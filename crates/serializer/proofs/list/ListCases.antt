@@ -11,15 +11,16 @@ use lib.ListN.{length, take}
 use Rattle.format.specs.declared.IndexRecordOption.{IndexRecordOption}
 use Rattle.format.specs.Basics.{Outcome, ok, refused, andThen, ask, choose, fitsAt, putAt, orBefore}
 use Rattle.format.specs.Refusal.{unknownMode, countMismatch, noRoom}
-use Rattle.format.specs.Written.{image}
+use Rattle.format.specs.Written.{image, imageFrom}
 use Rattle.format.specs.Accepted.{keptIn, begin, takeDocs, written}
 use Rattle.format.proofs.Area.{length-putAt, take-putAt-front}
 use Rattle.format.proofs.Outcome.{ok-same, ask-ok, andThen-ok}
 use Rattle.serializer.specs.declared.Accepted.the-variants.{Yes, Refused as No}
 use Rattle.serializer.specs.declared.Written.{Written}
 use Rattle.serializer.specs.declared.Written.the-variants.{Bytes, Refused}
-use Rattle.serializer.specs.Calls.{accepted, answered, ImagePut, ListLeft, Listed}
-use Rattle.serializer.specs.Whole.{Checked, ListSized, PartsThere, fullBlocks, imageFrom, blocksFit, listFits, BlocksPut, ListPut}
+use Rattle.serializer.specs.Calls.{accepted, answered, ListLeft, Listed}
+use Rattle.serializer.specs.Pieces.{ImagePut}
+use Rattle.serializer.specs.Whole.{Checked, ListSized, PartsThere, fullBlocks, blocksFit, listFits, BlocksPut, ListPut}
 use Rattle.serializer.specs.Writer.{listing, announcing}
 use Rattle.serializer.proofs.Laws.WholeList.{announcing-is}
 use Rattle.serializer.proofs.list.CheckLoop.{taken-rises}

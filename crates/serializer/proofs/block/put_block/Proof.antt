@@ -23,14 +23,14 @@ write-entry-requires c κs = search needs
 entry-size-requires : tie.Need-entry-size-requires
 entry-size-requires c κs = search needs
 
-add-t21 : tie.Need-add-t21
-add-t21 c = search needs
+add-t19 : tie.Need-add-t19
+add-t19 c = search needs
 
 compressed-block-size-requires-2 : tie.Need-compressed-block-size-requires-2
 compressed-block-size-requires-2 c κs = search needs
 
-add-t23 : tie.Need-add-t23
-add-t23 c = search needs
+add-t21 : tie.Need-add-t21
+add-t21 c = search needs
 
 same-length : tie.Need-same-length
 same-length c = search needs
@@ -40,14 +40,14 @@ same-length-2 c = search needs
 
 returns : tie.Need-returns
 returns c =
-    let entry = c .before .before .before .before in
+    let entry = c .before .before .before .before .before in
     let freqs = entry .before .before .before .before in
     let docs = freqs .before .before .before .before in
-    let sized = docs .before .before in
+    let sized = docs .before .before .before in
     let start = sized .before .before .before in
     let a = start .args in
-    block-put (a .option) (a .last-doc) (a .doc-width) (a .freq-width) (a .skips-at) (a .postings-at) _ _ _ _
-    (start .pre) (c .before .entry-size .ensures) (sized .compressed-block-size .ensures) (c .compressed-block-size2 .ensures)
+    block-put (a .option) (a .last-doc) (a .widths .docs) (a .widths .freqs) (a .at) _ _ _ _
+    (start .pre) (c .before .before .entry-size .ensures) (sized .compressed-block-size .ensures) (c .compressed-block-size2 .ensures)
     (entry .write-entry .ensures .1) (docs .pack-at .ensures) (freqs .pack-at2 .ensures)
 
 pub put-block-spec : {M : Type 1} → statement M
@@ -60,9 +60,9 @@ put-block-spec =
     pack-at-requires-2
     write-entry-requires
     entry-size-requires
-    add-t21
+    add-t19
     compressed-block-size-requires-2
-    add-t23
+    add-t21
     same-length
     same-length-2
     returns)

@@ -7,8 +7,8 @@ use denote.Ref.{now}
 use borrow.Author.Tests.{not-true, not-false}
 use borrow.Author.Needs.{needs}
 use Rattle.format.specs.Bitpacking.{width}
-use Rattle.serializer.specs.Calls.{blockFits}
-use Rattle.serializer.specs.Writer.{docValues, freqValues}
+use Rattle.serializer.specs.Pieces.{blockFits}
+use Rattle.format.specs.Written.{docValues, freqValues}
 use Rattle.serializer.proofs.block.BlockPlaced.{Valued, valued-narrow, valued-fits, valued-room, block-refused, block-written}
 use Rattle.serializer.proofs.block.write_block.Statement.{statement}
 use Rattle.serializer.proofs.block.write_block.Tie as tie
@@ -40,21 +40,21 @@ valued c =
       freq-width = c .freq-width .ensures ∙ rw freqs;
     }
 
-add-bits : tie.Need-add-bits
-add-bits c =
-    let start = c .before .before .before .before .before .before .before .before .before .before .before .before in
-    omega (arith, valued-narrow _ _ _ _ (valued c) (start .pre))
+add-has-room : tie.Need-add-has-room
+add-has-room c =
+    let start = c .before .before .before .before .before .before .before .before .before .before .before .before .before in
+    omega (arith, valued-narrow _ _ _ _ (valued (c .before)) (start .pre))
 
 has-room-requires : tie.Need-has-room-requires
 has-room-requires c κs =
-    let widths = c .before .before in
+    let widths = c .before .before .before in
     let start = widths .before .before .before .before .before .before .before .before .before .before .before .before in
     omega (arith, valued-narrow _ _ _ _ (valued widths) (start .pre))
 
 -- whether both fit is what was asked
-room-is : (c : tie.After-has-room) → let a = c .before .before .before .before .before .before .before .before .before .before .before .before .before .before .before .args in
-    c .has-room .result ≡ blockFits (a .option) (a .least) (now (a .docs)) (now (a .freqs)) (a .skips-at) (a .postings-at) (now (a .skips)) (now (a .postings))
-room-is c = c .has-room .ensures ∙ sym (valued-fits _ _ _ _ (valued (c .before .before .before)) _ _ _ _)
+room-is : (c : tie.After-has-room) → let a = c .before .before .before .before .before .before .before .before .before .before .before .before .before .before .before .before .args in
+    c .has-room .result ≡ blockFits (a .option) (a .least) (now (a .docs)) (now (a .freqs)) (a .at) (now (a .skips)) (now (a .postings))
+room-is c = c .has-room .ensures ∙ sym (valued-fits _ _ _ _ (valued (c .before .before .before .before)) _ _ _)
 
 same-length : tie.Need-same-length
 same-length c = search needs
@@ -63,7 +63,7 @@ same-length-2 : tie.Need-same-length-2
 same-length-2 c = search needs
 
 returns : tie.Need-returns
-returns c = block-refused _ _ _ _ _ _ _ _ (sym (room-is (c .before)) ∙ not-true _ (c .if1 .taken))
+returns c = block-refused _ _ _ _ _ _ _ (sym (room-is (c .before)) ∙ not-true _ (c .if1 .taken))
 
 last-of-requires : tie.Need-last-of-requires
 last-of-requires c κs = search needs
@@ -71,8 +71,8 @@ last-of-requires c κs = search needs
 put-block-requires : tie.Need-put-block-requires
 put-block-requires c κs =
     let room = c .before .before .before .before .before .before in
-    let start = room .before .before .before .before .before .before .before .before .before .before .before .before .before .before .before .before in
-    valued-room _ _ _ _ (valued (room .before .before .before .before)) _ _ _ _ (start .pre) (sym (room .before .has-room .ensures) ∙ not-false _ (room .if1 .left))
+    let start = room .before .before .before .before .before .before .before .before .before .before .before .before .before .before .before .before .before in
+    valued-room _ _ _ _ (valued (room .before .before .before .before .before)) _ _ _ (start .pre) (sym (room .before .has-room .ensures) ∙ not-false _ (room .if1 .left))
 
 same-length-3 : tie.Need-same-length-3
 same-length-3 c = search needs
@@ -85,7 +85,7 @@ returns-2 c =
     let put = c .before .before .before .before in
     let last = put .before .before .before .before .before in
     let room = last .before .before in
-    block-written _ _ _ _ (valued (room .before .before .before .before)) _ _ _ _ (sym (room-is (room .before)) ∙ not-false _ (room .if1 .left))
+    block-written _ _ _ _ (valued (room .before .before .before .before .before)) _ _ _ (sym (room-is (room .before)) ∙ not-false _ (room .if1 .left))
     (last .last-of .ensures) (put .put-block .ensures)
 
 pub write-block-spec : {M : Type 1} → statement M
@@ -96,7 +96,7 @@ write-block-spec =
     reduce-freqs-requires
     num-bits-requires
     freq-width-requires
-    add-bits
+    add-has-room
     has-room-requires
     same-length
     same-length-2

@@ -2,7 +2,7 @@
 -- Assumes nothing.
 use denote.Ref.{now}
 use borrow.Author.Needs.{needs}
-use Rattle.serializer.specs.Calls.{BlockWritten}
+use Rattle.serializer.specs.Pieces.{BlockWritten}
 use Rattle.serializer.specs.Writer.{optionOf}
 use Rattle.serializer.proofs.document.TakeCases.{finish-refused, finish-done}
 use Rattle.serializer.proofs.document.finish.Statement.{statement}
@@ -15,8 +15,8 @@ write-block-requires : tie.Need-write-block-requires
 write-block-requires c κs = search needs
 
 written : (c : tie.After-write-block) → let a = c .before .before .before .before .before .before .before .before .before .before .args in
-    BlockWritten (optionOf (a .full)) (a .least) (a .full .docs) (a .full .freqs) (a .full .«skips_at») (a .full .«postings_at») (now (a .skips)) (now (a .postings))
-    (c .write-block .last .1 .1 .1 .1 .0) (c .write-block .last .1 .1 .1 .1 .1 .1 .0) (c .write-block .result)
+    BlockWritten (optionOf (a .full)) (a .least) (a .full .docs) (a .full .freqs) (record { skips = a .full .«skips_at»; postings = a .full .«postings_at» }) (now (a .skips)) (now (a .postings))
+    (c .write-block .last .1 .1 .1 .1 .0) (c .write-block .last .1 .1 .1 .1 .1 .0) (c .write-block .result)
 unfolding optionOf
 written c = rw (c .before .before .before .before .before .record-option .ensures) at (c .write-block .ensures)
 

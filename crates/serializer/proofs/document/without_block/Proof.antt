@@ -4,7 +4,7 @@ use mathlib.Core.Path.{_≡_, ap, _∙_}
 use Prim.Native.Nat.{ℕ, _-_}
 use lib.ListN.{length, getD}
 use borrow.Author.Needs.{needs}
-use Rattle.serializer.specs.Pieces.{emptied}
+use Rattle.serializer.specs.Writer.{emptied}
 use Rattle.serializer.proofs.block.BlockPlaced.{last-at}
 use Rattle.serializer.proofs.document.without_block.Statement.{statement}
 use Rattle.serializer.proofs.document.without_block.Tie as tie

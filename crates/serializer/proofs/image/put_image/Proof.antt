@@ -12,8 +12,8 @@ use lib.ListN.{length}
 use borrow.Author.Tests.{not-true, not-false, leb-true}
 use borrow.Author.Needs.{needs}
 use Rattle.format.proofs.Area.{fits-front}
-use Rattle.serializer.specs.Calls.{imageWith}
-use Rattle.serializer.specs.Pieces.{BytesPut, headOf, tailWith}
+use Rattle.format.specs.Written.{imageWith, headOf, tailOf}
+use Rattle.serializer.specs.Pieces.{BytesPut}
 use Rattle.serializer.proofs.Laws.ImagePieces.{image-is, image-refused, image-put, put-next, put-both, room-behind}
 use Rattle.serializer.proofs.image.put_image.Statement.{statement}
 use Rattle.serializer.proofs.image.put_image.Tie as tie
@@ -26,7 +26,7 @@ abbrev head : tie.Start → List ℕ
 head c = headOf (c .args .full) (now (c .args .skips))
 
 abbrev tail : tie.Start → List ℕ
-tail c = tailWith (c .args .option) (c .args .offset) (now (c .args .docs)) (now (c .args .freqs))
+tail c = tailOf (c .args .option) (c .args .offset) (now (c .args .docs)) (now (c .args .freqs))
 
 abbrev image : tie.Start → List ℕ
 image c =

@@ -8,9 +8,9 @@ use borrow.Author.Needs.{needs}
 use Rattle.format.specs.SkipEntry.{hasFreq}
 use Rattle.format.specs.Values.{gapsFrom}
 use Rattle.format.specs.Vint.{vints}
-use Rattle.format.specs.Written.{onlyIf}
+use Rattle.format.specs.Written.{onlyIf, tailOf}
 use Rattle.format.proofs.Area.{fits-front}
-use Rattle.serializer.specs.Pieces.{BytesPut, tailWith}
+use Rattle.serializer.specs.Pieces.{BytesPut}
 use Rattle.serializer.proofs.Laws.ImagePieces.{put-next, put-both, room-behind}
 use Rattle.serializer.proofs.image.put_tail.Statement.{statement}
 use Rattle.serializer.proofs.image.put_tail.Tie as tie
@@ -29,7 +29,7 @@ abbrev freqs-bytes : tie.Start → List ℕ
 freqs-bytes c = onlyIf (hasFreq (c .args .option)) (vints (now (c .args .freqs)))
 
 room : (c : tie.Start) → c .args .at + length (docs-bytes c ++ freqs-bytes c) ≤ length (now (c .args .output))
-unfolding tailWith
+unfolding tailOf
 room c = c .pre
 
 docs-put : (c : tie.After-behind) → let start = c .before .before .before .before .before .before .before .before in
@@ -50,7 +50,7 @@ same-length : tie.Need-same-length
 same-length c = search needs
 
 returns : tie.Need-returns
-unfolding tailWith
+unfolding tailOf
 returns c =
     let put = c .before .before in
     let start = put .before .before .before .before .before .before .before .before .before .before in

@@ -7,8 +7,9 @@ use native.Mathlib.Omega.{arith}
 use denote.Ref.{now}
 use lib.ListN.{length, take}
 use Rattle.serializer.specs.Whole.{fullBlocks}
-use Rattle.serializer.specs.Writer.{leastAfter, blocksOf}
-use Rattle.serializer.proofs.list.Blocks.{blocksOf-zero}
+use Rattle.format.specs.Written.{blocksOf}
+use Rattle.serializer.specs.Writer.{leastAfter}
+use Rattle.format.proofs.ImageParts.{blocksOf-zero}
 use Rattle.serializer.proofs.Laws.BlockPlaces.{least-next, id-below, postings-most, size-next}
 use Rattle.serializer.proofs.list.blocks_size.Statement.{statement}
 use Rattle.serializer.proofs.list.blocks_size.Tie as tie

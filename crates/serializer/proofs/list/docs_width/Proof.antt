@@ -3,7 +3,7 @@
 use mathlib.Core.Path.{ap, _∙_}
 use borrow.Author.Needs.{needs}
 use Rattle.format.specs.Bitpacking.{width}
-use Rattle.serializer.specs.Writer.{docValues}
+use Rattle.format.specs.Written.{docValues}
 use Rattle.serializer.proofs.list.docs_width.Statement.{statement}
 use Rattle.serializer.proofs.list.docs_width.Tie as tie
 

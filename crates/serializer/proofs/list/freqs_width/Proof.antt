@@ -7,8 +7,7 @@ use borrow.Author.Tests.{not-true, not-false}
 use Rattle.format.specs.Basics.{choose}
 use Rattle.format.specs.Bitpacking.{bitsF, largest, width}
 use Rattle.format.specs.Values.{reduced}
-use Rattle.format.specs.Written.{onlyIf}
-use Rattle.serializer.specs.Writer.{freqValues}
+use Rattle.format.specs.Written.{onlyIf, freqValues}
 use Rattle.serializer.proofs.list.freqs_width.Statement.{statement}
 use Rattle.serializer.proofs.list.freqs_width.Tie as tie
 

@@ -7,25 +7,25 @@ use native.Mathlib.Omega.{arith}
 use borrow.Author.Needs.{needs}
 use denote.Ref.{now}
 use lib.ListN.{length}
-use Rattle.serializer.specs.declared.Placed.the-variants.{NoRoom}
+use Rattle.serializer.specs.declared.block.Placed.the-variants.{NoRoom}
 use Rattle.serializer.proofs.Laws.BlockPlaces.{block-rises, id-below}
 use Rattle.serializer.proofs.list.AreasLoop.{Written, written-none, written-next, written-all, not-refused, skips-kept, postings-kept}
 use Rattle.serializer.proofs.list.write_blocks.Statement.{statement}
 use Rattle.serializer.proofs.list.write_blocks.Tie as tie
 
 abbrev Inv-loop : tie.InvT-loop
-Inv-loop option ids freqs skips₀ postings₀ least₀ skips-at₀ postings-at₀ n₀ n-end skips postings least skips-at postings-at n =
-    (n ≤ length ids / 128) × Written option ids freqs skips₀ postings₀ n least skips-at postings-at skips postings
+Inv-loop option ids freqs skips₀ postings₀ least₀ at₀ n₀ n-end skips postings least at n =
+    (n ≤ length ids / 128) × Written option ids freqs skips₀ postings₀ n least at skips postings
 
 abbrev μ-loop : tie.MeasureT-loop
-μ-loop option ids freqs skips₀ postings₀ least₀ skips-at₀ postings-at₀ n₀ n-end skips postings least skips-at postings-at n =
+μ-loop option ids freqs skips₀ postings₀ least₀ at₀ n₀ n-end skips postings least at n =
     length ids / 128 - n
 
 loop-holds : tie.Need-loop-holds Inv-loop μ-loop
 loop-holds c = (omega arith, written-none _ _ _ _ _)
 
-mul-at : tie.Need-mul-at Inv-loop μ-loop
-mul-at c = omega arith
+mul-first : tie.Need-mul-first Inv-loop μ-loop
+mul-first c = omega arith
 
 write-next-requires : tie.Need-write-next-requires Inv-loop μ-loop
 write-next-requires c κs =
@@ -106,7 +106,7 @@ write-blocks-spec =
     Inv-loop
     μ-loop
     loop-holds
-    mul-at
+    mul-first
     write-next-requires
     enum-known-placed
     enum-told
