@@ -31,10 +31,10 @@ use Rattle.serializer.specs.declared.Written.{Written}
 use Rattle.serializer.specs.declared.Written.the-variants.{Bytes, Refused}
 use Rattle.serializer.specs.Writer.{Areas, listing, closing}
 use Rattle.serializer.specs.Calls.{accepted, answered, Settled, Closed, Listed}
-use Rattle.serializer.specs.Lists.{HasRoom}
 use Rattle.serializer.proofs.Laws.WholeList.{whole-list-writes}
 use Rattle.segment_postings.specs.Admission.{Meets, MeetsNone}
 use Rattle.segment_postings.proofs.Admission.AdmissionExact.{admission-admits, admission-refuses}
+use Rattle.postings.specs.FirstPromise.{Acceptable}
 
 -- ---- accepted lists
 
@@ -87,27 +87,22 @@ not-accepted (ok a) e = absurd (let z : _≡_ {A = ℕ} 0 1 = cc in omega arith)
 not-accepted (refused m) e = cc
 
 module _ (mode : ℕ) (recording : Bool) (ds fs skips postings output : List ℕ) (small : AllBelow (2 ^ 32) fs) where
-  -- what is asked of a list: a known mode, ids that rise strictly and stay below 2147483647, kept frequencies of at least 1, as many of
-  -- the one as of the other, and room
-  pub record Acceptable : Type 0 where
-    pub mode-known : mode ≤ 1
-    pub accepted : Accepted (keptIn mode recording) 0 ds fs
-    pub has-room : HasRoom mode recording ds fs skips postings output (image (keptIn mode recording) ds fs)
-
-  pub listed-acceptable : {bytes : List ℕ} → listing mode recording ds fs skips postings output ≡ ok bytes → Acceptable
+  pub listed-acceptable : {bytes : List ℕ} → listing mode recording ds fs skips postings output ≡ ok bytes
+      → Acceptable mode recording ds fs skips postings output
   listed-acceptable e =
       let p = whole-list-writes mode recording ds fs skips postings output .0 e in
       let w = written-ok mode recording ds fs small (p .0) in
       record { mode-known = w .mode-known; accepted = w .accepted; has-room = rw (w .bytes) at (p .1) }
 
-  pub acceptable-listed : Acceptable → listing mode recording ds fs skips postings output ≡ ok (image (keptIn mode recording) ds fs)
+  pub acceptable-listed : Acceptable mode recording ds fs skips postings output
+      → listing mode recording ds fs skips postings output ≡ ok (image (keptIn mode recording) ds fs)
   acceptable-listed a =
       whole-list-writes mode recording ds fs skips postings output .1
       (accepted-written mode recording ds fs (a .mode-known) (a .accepted), a .has-room)
 
   -- a list is accepted exactly then: `write_list` answers a number of bytes, and else a refusal
   pub list-accepted : {skips′ postings′ output′ : List ℕ} {r : Written} → Listed mode recording ds fs skips postings output skips′ postings′ output′ r
-      → ((n : ℕ) × (r ≡ Bytes n)) ↔ Acceptable
+      → ((n : ℕ) × (r ≡ Bytes n)) ↔ Acceptable mode recording ds fs skips postings output
   unfolding answered
   list-accepted l = (
     λ b. listed-acceptable (bytes-answered length _ (sym (l .answer) ∙ b .1) .1),

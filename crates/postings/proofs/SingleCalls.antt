@@ -37,7 +37,8 @@ use Rattle.serializer.proofs.Laws.BlockPlaces.{front-fits, blocks-room}
 use Rattle.serializer.proofs.Laws.WholeList.{whole-list-writes}
 use Rattle.serializer.proofs.SingleCalls.TakenDocuments.{TakenAll, taken-all}
 use Rattle.serializer.proofs.SingleCalls.WritesList.{single-calls-write}
-use Rattle.postings.proofs.FirstPromise.{bytes-answered, Acceptable, listed-acceptable, acceptable-listed, refused-document}
+use Rattle.postings.specs.FirstPromise.{Acceptable}
+use Rattle.postings.proofs.FirstPromise.{bytes-answered, listed-acceptable, acceptable-listed, refused-document}
 use Rattle.postings.specs.WriterCalls.{areasOf, Handed, none, next, TermWritten, taken, allYes}
 
 -- ---- the calls leave what those of the documents taken leave
@@ -284,7 +285,7 @@ module _ (mode : ℕ) (recording : Bool) (ds fs : List ℕ) (announced : ℕ) (s
       }
 
   -- promise 1 of the order, for single calls: a list is accepted exactly if `write_list` accepts it and its count is the announced one
-  pub term-accepted : AllAccepted ↔ ((announced ≡ length ds) × Acceptable mode recording ds fs skips postings output small)
+  pub term-accepted : AllAccepted ↔ ((announced ≡ length ds) × Acceptable mode recording ds fs skips postings output)
   term-accepted = (
     λ a. let p = accepted-listed a in (p .0, listed-acceptable mode recording ds fs skips postings output small (p .1)),
     λ p. listed-accepted (p .0) (acceptable-listed mode recording ds fs skips postings output small (p .1)),

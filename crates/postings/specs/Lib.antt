@@ -1,3 +1,4 @@
+pub mod FirstPromise
 pub mod MixedCalls
 pub mod RunCalls
 pub mod ThirdPromise
