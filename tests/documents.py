@@ -8,8 +8,8 @@ import sys
 
 ROOT = pathlib.Path(__file__).resolve().parent.parent
 PAGES = [ROOT / "README.md", *sorted((ROOT / "docs").glob("*.md"))]
-# Names that stand for many files, and files beside the repository or made by a command.
-OTHERS = re.compile(r"\*|NAME|MODULE|^\.\./shared|^target/|^docs/src|^(src|common)/.*\.rs$|^F/")
+# Names that stand for many files, and files beside the repository (the Rust) or made by a command.
+OTHERS = re.compile(r"\*|NAME|MODULE|/F/|^\.\./shared|^target/|(?<!examples/first)\.rs$")
 # What CHANGES.md says of earlier landings may name files that have moved since.
 FREE = {"CHANGES.md"}
 
@@ -38,8 +38,8 @@ for page in PAGES:
 
 promises = (ROOT / "docs/PROMISES.md").read_text()
 table = promises[promises.index("## Wrong programs") : promises.index("## The forms")]
-named = {word for line in table.splitlines() if line.startswith("- ") for word in re.findall(r"\b[a-z][a-z0-9]*(?:_[a-z0-9]+)+\b", line.split(": ", 1)[-1])}
-named |= set(re.findall(r"\b[a-z]+\b", table)) & edits
+# Functions stand in backticks, wrong programs don't.
+named = set(re.findall(r"\b[a-z]+(?:_[a-z0-9]+)+\b", re.sub(r"`[^`]*`|\S*/\S*|\*\*[^*]*\*\*", "", table)))
 wrong += [f"PROMISES.md: no edit {name}" for name in sorted(named - edits)]
 wrong += [f"PROMISES.md doesn't name the edit {name}" for name in sorted(edits - named)]
 
