@@ -39,7 +39,7 @@ use Rattle.serializer.proofs.SingleCalls.TakenDocuments.{TakenAll, taken-all}
 use Rattle.serializer.proofs.SingleCalls.WritesList.{single-calls-write}
 use Rattle.postings.specs.FirstPromise.{Acceptable}
 use Rattle.postings.proofs.FirstPromise.{bytes-answered, listed-acceptable, acceptable-listed, refused-document}
-use Rattle.postings.specs.WriterCalls.{areasOf, Handed, none, next, TermWritten, taken, allYes}
+use Rattle.postings.specs.WriterCalls.{areasOf, Handed, none, next, TermWritten, taken, allYes, AllAccepted}
 
 -- ---- the calls leave what those of the documents taken leave
 
@@ -239,13 +239,6 @@ handed-yes {c = c} (next {d = d} {f} {ds} {fs} {r = r} {answers} t later) all =
 module _ (mode : ℕ) (recording : Bool) (ds fs : List ℕ) (announced : ℕ) (skips postings output : List ℕ) (small : AllBelow (2 ^ 32) fs)
     {answers : List Accepted} {left : Areas} {output′ : List ℕ} {r : ClosedTerm}
     (t : TermWritten mode recording ds fs announced skips postings output answers left output′ r) where
-  -- every call says yes, and closing gives bytes
-  pub record AllAccepted : Type 0 where
-    pub begins : t .begun .answer ≡ Yes
-    pub takes : allYes answers ≡ true
-    pub bytes : ℕ
-    pub closes : r .answer ≡ Bytes bytes
-
   begins-known : t .begun .answer ≡ Yes → mode ≤ 1
   unfolding beginning begun
   begins-known granted = leb-true mode 1 (ask-ok _ _ _ (accepted-yes (begun mode recording) .0 (sym (ap (λ s. s .answer) (t .begins)) ∙ granted) .1) .0)
@@ -261,7 +254,7 @@ module _ (mode : ℕ) (recording : Bool) (ds fs : List ℕ) (announced : ℕ) (s
   handed : Handed (areasOf (fresh mode recording) skips postings) ds fs answers left
   handed = rw begun-fresh at (t .handed)
 
-  accepted-listed : AllAccepted → (announced ≡ length ds) × (listing mode recording ds fs skips postings output ≡ ok (image (keptIn mode recording) ds fs))
+  accepted-listed : AllAccepted (t .begun) answers r → (announced ≡ length ds) × (listing mode recording ds fs skips postings output ≡ ok (image (keptIn mode recording) ds fs))
   accepted-listed a =
       let known = begins-known (a .begins) in
       let ids = taken-whole answers ds (handed-answers handed) (a .takes) in
@@ -270,7 +263,7 @@ module _ (mode : ℕ) (recording : Bool) (ds fs : List ℕ) (announced : ℕ) (s
       let listed = closed-listed mode recording skips postings known handed small (t .closed) (a .closes) in
       (k .0 ∙ ap length ids, rw (ids, freqs) at listed)
 
-  listed-accepted : announced ≡ length ds → listing mode recording ds fs skips postings output ≡ ok (image (keptIn mode recording) ds fs) → AllAccepted
+  listed-accepted : announced ≡ length ds → listing mode recording ds fs skips postings output ≡ ok (image (keptIn mode recording) ds fs) → AllAccepted (t .begun) answers r
   unfolding answered
   listed-accepted same e =
       let p = whole-list-writes mode recording ds fs skips postings output .0 e in
@@ -285,7 +278,7 @@ module _ (mode : ℕ) (recording : Bool) (ds fs : List ℕ) (announced : ℕ) (s
       }
 
   -- promise 1 of the order, for single calls: a list is accepted exactly if `write_list` accepts it and its count is the announced one
-  pub term-accepted : AllAccepted ↔ ((announced ≡ length ds) × Acceptable mode recording ds fs skips postings output)
+  pub term-accepted : AllAccepted (t .begun) answers r ↔ ((announced ≡ length ds) × Acceptable mode recording ds fs skips postings output)
   term-accepted = (
     λ a. let p = accepted-listed a in (p .0, listed-acceptable mode recording ds fs skips postings output small (p .1)),
     λ p. listed-accepted (p .0) (acceptable-listed mode recording ds fs skips postings output small (p .1)),

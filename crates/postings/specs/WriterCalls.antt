@@ -9,6 +9,7 @@ use Prim.Native.Nat.{ℕ}
 use Rattle.serializer.specs.declared.Accepted.{Accepted}
 use Rattle.serializer.specs.declared.Accepted.the-variants.{Yes, Refused}
 use Rattle.serializer.specs.declared.ClosedTerm.{ClosedTerm}
+use Rattle.serializer.specs.declared.Written.the-variants.{Bytes}
 use Rattle.serializer.specs.declared.PostingsSerializer.{PostingsSerializer}
 use Rattle.serializer.specs.declared.Step.{Step}
 use Rattle.serializer.specs.Writer.{Areas}
@@ -43,3 +44,10 @@ unfoldable pub allYes : List Accepted → Bool
 allYes [] = true
 allYes (Yes ∷ answers) = allYes answers
 allYes (Refused n ∷ answers) = false
+
+-- every call says yes, and closing gives bytes
+pub record AllAccepted (begun : Step) (answers : List Accepted) (closed : ClosedTerm) : Type 0 where
+  pub begins : begun .answer ≡ Yes
+  pub takes : allYes answers ≡ true
+  pub bytes : ℕ
+  pub closes : closed .answer ≡ Bytes bytes
