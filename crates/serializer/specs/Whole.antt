@@ -7,10 +7,12 @@ use Prim.Native.Nat.{ℕ, _+_, _/_, _≤_}
 use lib.Dec.{leb}
 use lib.ListN.{length, take, drop}
 use Rattle.format.specs.declared.IndexRecordOption.{IndexRecordOption}
-use Rattle.format.specs.Basics.{choose, putAt, fitsAt}
+use Rattle.format.specs.Basics.{choose, lastOf, putAt, fitsAt}
 use Rattle.format.specs.Refusal.{noRoom}
 use Rattle.format.specs.Values.{rising}
-use Rattle.format.specs.Written.{Parts, blocksOf, image}
+use Rattle.format.specs.Written.{Parts, blocksOf, inBlocks, image}
+use Rattle.serializer.specs.declared.list.Sizes.{Sizes}
+use Rattle.serializer.specs.declared.list.Tail.{Tail}
 use Rattle.serializer.specs.declared.Written.{Written}
 use Rattle.serializer.specs.declared.Written.the-variants.{Bytes, Refused}
 
@@ -25,10 +27,10 @@ unfolding blocksOf
 fullBlocks option ds fs = blocksOf option (length ds / 128) 0 ds fs
 
 -- .. and their sizes
-pub record ListSized (option : IndexRecordOption) (ds fs : List ℕ) (entries size : ℕ) : Type 0 where
+pub record ListSized (option : IndexRecordOption) (ds fs : List ℕ) (sizes : Sizes) : Type 0 where
   pub checked : Checked ds fs
-  pub entries-are : entries ≡ length (fullBlocks option ds fs .skips)
-  pub size-is : size ≡ length (fullBlocks option ds fs .postings)
+  pub entries-are : sizes .entries ≡ length (fullBlocks option ds fs .skips)
+  pub blocks-are : sizes .blocks ≡ length (fullBlocks option ds fs .postings)
 
 -- the block that begins at a place
 pub record BlockThere (least at : ℕ) (ds fs : List ℕ) : Type 0 where
@@ -37,10 +39,16 @@ pub record BlockThere (least at : ℕ) (ds fs : List ℕ) : Type 0 where
   pub rises : rising least (take 128 (drop at ds)) ≡ true
 
 -- so many bytes of entries and of blocks within their areas
-pub record PartsThere (ds fs : List ℕ) (entries size : ℕ) (skips postings : List ℕ) : Type 0 where
+pub record PartsThere (ds fs : List ℕ) (sizes : Sizes) (skips postings : List ℕ) : Type 0 where
   pub as-many : length ds ≡ length fs
-  pub entries-there : entries ≤ length skips
-  pub blocks-there : size ≤ length postings
+  pub entries-there : sizes .entries ≤ length skips
+  pub blocks-there : sizes .blocks ≤ length postings
+
+-- where its tail begins
+pub record TailOf (ds : List ℕ) (tail : Tail) : Type 0 where
+  pub full-is : tail .full ≡ length ds / 128
+  pub at-is : tail .at ≡ inBlocks ds
+  pub offset-is : tail .offset ≡ lastOf 0 (take (inBlocks ds) ds)
 
 -- question 15, of the two areas
 unfoldable pub blocksFit : IndexRecordOption → List ℕ → List ℕ → List ℕ → List ℕ → Bool

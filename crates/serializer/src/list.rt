@@ -31,7 +31,20 @@ ghost use Rattle.format.specs.Written.{docValues, freqValues, blockOf, imageFro
 ghost use Rattle.serializer.specs.Writer.{announcing};
 ghost use Rattle.serializer.specs.Calls.{accepted, Listed};
 ghost use Rattle.serializer.specs.Pieces.{BlockWritten, ImagePut};
-ghost use Rattle.serializer.specs.Whole.{Checked, ListSized, BlockThere, PartsThere, fullBlocks, blocksFit, listFits, BlocksPut, ListPut};
+ghost use Rattle.serializer.specs.Whole.{Checked, ListSized, BlockThere, PartsThere, TailOf, fullBlocks, blocksFit, listFits, BlocksPut, ListPut};
+
+// The bytes of a list's entries and of its full blocks.
+struct Sizes {
+    entries: usize,
+    blocks: usize,
+}
+
+// Behind how many full blocks a list's tail begins, at which place, and the last id before it, 0 where there is none.
+struct Tail {
+    full: usize,
+    at: usize,
+    offset: u32,
+}
 
 // Questions 11 to 13, document by document.
 fn check_docs(option: IndexRecordOption, ids: &[u32], freqs: &[u32]) -> Accepted
@@ -117,34 +130,56 @@ fn entries_size(option: IndexRecordOption, ids: &[u32]) -> usize
     entry_size(option) * (ids.len() / 128)
 }
 
-// Question 15; `entries` and `size` are the bytes of the entries and of the full blocks.
+// The sizes of a list that passed its questions.
+fn list_sizes(option: IndexRecordOption, ids: &[u32], freqs: &[u32]) -> Sizes
+    requires { ⌜ Checked (now ids) (now freqs) ⌝ }
+    ensures { λ r. ⌜ ListSized option (now (ids .entry)) (now (freqs .entry)) r ⌝ }
+{
+    Sizes {
+        entries: entries_size(option, ids),
+        blocks: blocks_size(option, ids, freqs),
+    }
+}
+
+// Where the tail of a list begins.
+fn tail_of(ids: &[u32]) -> Tail
+    ensures { λ r. ⌜ TailOf (now (ids .entry)) r ⌝ }
+{
+    let full = ids.len() / 128;
+    let at = 128 * full;
+    let offset = last_of(&ids[..at]);
+    Tail { full, at, offset }
+}
+
+// Question 15.
 fn list_fits(
     option: IndexRecordOption,
     ids: &[u32],
     freqs: &[u32],
-    entries: usize,
-    size: usize,
+    sizes: Sizes,
     skips: &[u8],
     postings: &[u8],
     len: usize,
 ) -> bool
-    requires { ⌜ ListSized option (now ids) (now freqs) entries size ⌝ }
+    requires { ⌜ ListSized option (now ids) (now freqs) sizes ⌝ }
     ensures { λ r. ⌜ r ≡ listFits option (now (ids .entry)) (now (freqs .entry)) (now (skips .entry)) (now (postings .entry)) len ⌝ }
 {
+    let entries = sizes.entries;
+    let blocks = sizes.blocks;
     if skips.len() < entries {
         return false;
     }
-    if postings.len() < size {
+    if postings.len() < blocks {
         return false;
     }
-    let full = ids.len() / 128;
-    let at = 128 * full;
+    let tail = tail_of(ids);
+    let at = tail.at;
     image_fits(
-        full,
+        tail.full,
         &skips[..entries],
-        &postings[..size],
+        &postings[..blocks],
         option,
-        last_of(&ids[..at]),
+        tail.offset,
         &ids[at..],
         &freqs[at..],
         len,
@@ -211,24 +246,25 @@ fn put_list(
     option: IndexRecordOption,
     ids: &[u32],
     freqs: &[u32],
-    entries: usize,
-    size: usize,
+    sizes: Sizes,
     skips: &[u8],
     postings: &[u8],
     output: &mut [u8],
 ) -> Written
-    requires { ⌜ PartsThere (now ids) (now freqs) entries size (now skips) (now postings) ⌝ }
-    ensures { λ r. ⌜ ImagePut (imageFrom option (now (ids .entry)) (now (freqs .entry)) (take entries (now (skips .entry))) (take size (now (postings .entry))))
-        (now (output .entry)) (now (output .exit)) r ⌝ }
+    requires { ⌜ PartsThere (now ids) (now freqs) sizes (now skips) (now postings) ⌝ }
+    ensures { λ r. ⌜ ImagePut (imageFrom option (now (ids .entry)) (now (freqs .entry)) (take (sizes .entries) (now (skips .entry)))
+        (take (sizes .blocks) (now (postings .entry)))) (now (output .entry)) (now (output .exit)) r ⌝ }
 {
-    let full = ids.len() / 128;
-    let at = 128 * full;
+    let entries = sizes.entries;
+    let blocks = sizes.blocks;
+    let tail = tail_of(ids);
+    let at = tail.at;
     put_image(
-        full,
+        tail.full,
         &skips[..entries],
-        &postings[..size],
+        &postings[..blocks],
         option,
-        last_of(&ids[..at]),
+        tail.offset,
         &ids[at..],
         &freqs[at..],
         output,
@@ -248,22 +284,12 @@ fn write_checked(
     ensures { λ r. ⌜ ListPut option (now (ids .entry)) (now (freqs .entry)) (now (skips .entry)) (now (postings .entry)) (now (output .entry))
         (now (skips .exit)) (now (postings .exit)) (now (output .exit)) r ⌝ }
 {
-    let entries = entries_size(option, ids);
-    let size = blocks_size(option, ids, freqs);
-    if !list_fits(
-        option,
-        ids,
-        freqs,
-        entries,
-        size,
-        skips,
-        postings,
-        output.len(),
-    ) {
+    let sizes = list_sizes(option, ids, freqs);
+    if !list_fits(option, ids, freqs, sizes, skips, postings, output.len()) {
         return Written::Refused(NO_ROOM);
     }
     write_blocks(option, ids, freqs, skips, postings);
-    put_list(option, ids, freqs, entries, size, skips, postings, output)
+    put_list(option, ids, freqs, sizes, skips, postings, output)
 }
 
 // Questions 1, 14 of slices of different length, and 11 to 13.
@@ -291,9 +317,8 @@ fn has_room(
     requires { ⌜ Checked (now ids) (now freqs) ⌝ }
     ensures { λ r. ⌜ r ≡ listFits option (now (ids .entry)) (now (freqs .entry)) (now (skips .entry)) (now (postings .entry)) len ⌝ }
 {
-    let entries = entries_size(option, ids);
-    let size = blocks_size(option, ids, freqs);
-    list_fits(option, ids, freqs, entries, size, skips, postings, len)
+    let sizes = list_sizes(option, ids, freqs);
+    list_fits(option, ids, freqs, sizes, skips, postings, len)
 }
 
 // Every question of a whole list under an announced count: as `write_list` asks them, with 14 for another count behind those of the

@@ -24,7 +24,9 @@ use Rattle.format.proofs.ImageLayout.{skips-length}
 use Rattle.format.proofs.ImageParts.{blocksOf-zero, blocksOf-suc, parts-skips}
 use Rattle.format.proofs.Lists.{allBelow-getD}
 use Rattle.format.proofs.Values.{rising-take, rising-drop, rising-below}
-use Rattle.serializer.specs.Whole.{ListSized, fullBlocks, blocksFit, listFits}
+use Rattle.serializer.specs.declared.list.Sizes.{Sizes}
+use Rattle.serializer.specs.declared.list.Tail.{Tail}
+use Rattle.serializer.specs.Whole.{ListSized, TailOf, fullBlocks, blocksFit, listFits}
 use Rattle.serializer.specs.Writer.{leastAfter}
 use Rattle.serializer.proofs.list.Blocks.{leastAfter-last, blocks-next}
 use Rattle.serializer.proofs.Laws.ImagePieces.{head-none, head-some, image-is}
@@ -105,16 +107,16 @@ module _ (option : IndexRecordOption) (ds fs : List ℕ) where
       rw (image-is (length ds / 128) skips postings, image-is (length ds / 128) skips′ postings′) (simp length-append (rw (b, head-size (length ds / 128) skips skips′ a)))
 
   -- the tail's documents and frequencies are all that lie behind the blocks
-  pub image-parts : (skips postings : List ℕ) {offset : ℕ} → length ds ≡ length fs → offset ≡ lastOf 0 (take (inBlocks ds) ds)
-      → (let at : ℕ = inBlocks ds in
-      imageWith (length ds / 128) skips postings option offset (take (length ds - at) (drop at ds)) (take (length fs - at) (drop at fs)))
+  pub image-parts : (skips postings : List ℕ) {tail : Tail} → length ds ≡ length fs → TailOf ds tail
+      → (let at : ℕ = tail .at in
+      imageWith (tail .full) skips postings option (tail .offset) (take (length ds - at) (drop at ds)) (take (length fs - at) (drop at fs)))
       ≡ imageFrom option ds fs skips postings
   unfolding imageFrom
-  image-parts skips postings same e =
+  image-parts skips postings same t =
       let at : ℕ = inBlocks ds in
       let docs = take-all (length ds - at) (drop at ds) (omega (arith, length-drop at ds)) in
       let freqs = take-all (length fs - at) (drop at fs) (omega (arith, length-drop at fs)) in
-      rw (docs, freqs, e)
+      rw (t .full-is, t .at-is, t .offset-is, docs, freqs)
 
 -- ---- question 15
 
@@ -139,25 +141,28 @@ module _ (option : IndexRecordOption) (ds fs skips postings : List ℕ) where
   unfolding listFits
   listFits-is len = refl
 
-module _ {option : IndexRecordOption} {ds fs : List ℕ} {entries size : ℕ} (sized : ListSized option ds fs entries size)
+module _ {option : IndexRecordOption} {ds fs : List ℕ} {sizes : Sizes} (sized : ListSized option ds fs sizes)
     (skips postings : List ℕ) (len : ℕ) where
   fits-is : listFits option ds fs skips postings len
-      ≡ and (and (leb entries (length skips)) (leb size (length postings))) (leb (length (image option ds fs)) len)
-  fits-is = rw (listFits-is, blocksFit-is, sized .entries-are, sized .size-is)
+      ≡ and (and (leb (sizes .entries) (length skips)) (leb (sizes .blocks) (length postings))) (leb (length (image option ds fs)) len)
+  fits-is = rw (listFits-is, blocksFit-is, sized .entries-are, sized .blocks-are)
 
-  pub entries-refused : length skips < entries → listFits option ds fs skips postings len ≡ false
+  pub entries-refused : length skips < sizes .entries → listFits option ds fs skips postings len ≡ false
   entries-refused h = fits-is ∙ rw (lt-leb _ _ h)
 
-  module _ (room : entries ≤ length skips) where
-    pub blocks-refused : length postings < size → listFits option ds fs skips postings len ≡ false
+  module _ (room : sizes .entries ≤ length skips) where
+    pub blocks-refused : length postings < sizes .blocks → listFits option ds fs skips postings len ≡ false
     blocks-refused h = fits-is ∙ rw (le-leb _ _ room, lt-leb _ _ h)
 
     -- .. is then one of the image, whatever bytes its parts have
-    pub fits-image : size ≤ length postings
-        → listFits option ds fs skips postings len ≡ leb (length (imageFrom option ds fs (take entries skips) (take size postings))) len
+    pub fits-image : sizes .blocks ≤ length postings
+        → listFits option ds fs skips postings len
+        ≡ leb (length (imageFrom option ds fs (take (sizes .entries) skips) (take (sizes .blocks) postings))) len
     fits-image h =
         let blocks = fullBlocks option ds fs in
-        let skips-are : length (blocks .skips) ≡ length (take entries skips) = sym (length-take-le entries skips room ∙ sized .entries-are) in
-        let postings-are : length (blocks .postings) ≡ length (take size postings) = sym (length-take-le size postings h ∙ sized .size-is) in
+        let front : List ℕ = take (sizes .entries) skips in
+        let behind : List ℕ = take (sizes .blocks) postings in
+        let skips-are : length (blocks .skips) ≡ length front = sym (length-take-le (sizes .entries) skips room ∙ sized .entries-are) in
+        let postings-are : length (blocks .postings) ≡ length behind = sym (length-take-le (sizes .blocks) postings h ∙ sized .blocks-are) in
         fits-is
-        ∙ rw (le-leb _ _ room, le-leb _ _ h, image-from option ds fs, image-size option ds fs (blocks .skips) (blocks .postings) (take entries skips) (take size postings))
+        ∙ rw (le-leb _ _ room, le-leb _ _ h, image-from option ds fs, image-size option ds fs (blocks .skips) (blocks .postings) front behind)

@@ -23,7 +23,7 @@ unfolding leastAfter lastOf
 leastAfter-last least [] h = absurd (not-suc-le-zero h)
 leastAfter-last least (d ∷ ds) h = refl
 
--- .. which is one more than its last too where it has none, as a tail counts from 0
+-- the id before it: the list's last, 0 where it has none
 pub least-before : (ds : List ℕ) → leastAfter 0 ds - 1 ≡ lastOf 0 ds
 unfolding leastAfter lastOf
 least-before [] = refl

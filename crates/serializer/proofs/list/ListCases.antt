@@ -16,6 +16,7 @@ use Rattle.format.specs.Accepted.{keptIn, begin, takeDocs, written}
 use Rattle.format.proofs.Area.{length-putAt, take-putAt-front}
 use Rattle.format.proofs.Outcome.{ok-same, ask-ok, andThen-ok}
 use Rattle.serializer.specs.declared.Accepted.the-variants.{Yes, Refused as No}
+use Rattle.serializer.specs.declared.list.Sizes.{Sizes}
 use Rattle.serializer.specs.declared.Written.{Written}
 use Rattle.serializer.specs.declared.Written.the-variants.{Bytes, Refused}
 use Rattle.serializer.specs.Calls.{accepted, answered, ListLeft, Listed}
@@ -166,12 +167,12 @@ module _ (option : IndexRecordOption) (ds fs skips postings output : List ℕ) w
     pub blocks-fit : blocksFit option ds fs skips postings ≡ true
     blocks-fit = both .0
 
-    module _ {entries size : ℕ} {skips′ postings′ : List ℕ} (sized : ListSized option ds fs entries size)
+    module _ {sizes : Sizes} {skips′ postings′ : List ℕ} (sized : ListSized option ds fs sizes)
         (blocks : BlocksPut option ds fs skips postings skips′ postings′) where
-      room : (entries ≤ length skips) × (size ≤ length postings)
-      room = rw (sized .entries-are, sized .size-is) (blocks-room option ds fs skips postings blocks-fit)
+      room : (sizes .entries ≤ length skips) × (sizes .blocks ≤ length postings)
+      room = rw (sized .entries-are, sized .blocks-are) (blocks-room option ds fs skips postings blocks-fit)
 
-      pub parts-there : PartsThere ds fs entries size skips′ postings′
+      pub parts-there : PartsThere ds fs sizes skips′ postings′
       parts-there = record {
         as-many = sized .checked .as-many;
         entries-there = rw (blocks .skips-after, length-putAt) (room .0);
@@ -179,12 +180,13 @@ module _ (option : IndexRecordOption) (ds fs skips postings output : List ℕ) w
       }
 
       -- the image of what stands in the areas is the list's
-      image-there : imageFrom option ds fs (take entries skips′) (take size postings′) ≡ image option ds fs
+      image-there : imageFrom option ds fs (take (sizes .entries) skips′) (take (sizes .blocks) postings′) ≡ image option ds fs
       image-there =
           let all = blocks-room option ds fs skips postings blocks-fit in
-          rw (blocks .skips-after, blocks .postings-after, sized .entries-are, sized .size-is, take-putAt-front _ skips (all .0), take-putAt-front _ postings (all .1), ← image-from)
+          rw (blocks .skips-after, blocks .postings-after, sized .entries-are, sized .blocks-are, take-putAt-front _ skips (all .0), take-putAt-front _ postings (all .1), ← image-from)
 
-      pub put-all : {output′ : List ℕ} {r : Written} → ImagePut (imageFrom option ds fs (take entries skips′) (take size postings′)) output output′ r
+      pub put-all : {output′ : List ℕ} {r : Written}
+          → ImagePut (imageFrom option ds fs (take (sizes .entries) skips′) (take (sizes .blocks) postings′)) output output′ r
           → ListPut option ds fs skips postings output skips′ postings′ output′ r
       unfolding choose
       put-all p = record {

@@ -2,7 +2,6 @@
 -- image goes by the sizes of its parts.
 -- Assumes nothing.
 use mathlib.Core.Path.{sym, _∙_}
-use native.Mathlib.Omega.{arith}
 use denote.Ref.{now}
 use lib.Seq.{length-take-le}
 use Rattle.serializer.proofs.Laws.BlockPlaces.{image-parts, entries-refused, blocks-refused, fits-image}
@@ -20,20 +19,14 @@ returns-2 c =
     let start = c .before .before .before .before .before .before in
     sym (blocks-refused (start .pre) (now (start .args .skips)) (now (start .args .postings)) (start .args .len) (c .before .if1 .left) (c .if2 .taken))
 
-mul-at : tie.Need-mul-at
-mul-at c = search needs
+tail-of-requires : tie.Need-tail-of-requires
+tail-of-requires c κs = search needs
 
 slice-aggregate-image-fits : tie.Need-slice-aggregate-image-fits
-slice-aggregate-image-fits c = sym (length-take-le _ _ (c .before .before .if1 .left))
+slice-aggregate-image-fits c = sym (length-take-le _ _ (c .before .before .before .if1 .left))
 
 slice-aggregate-image-fits-2 : tie.Need-slice-aggregate-image-fits-2
-slice-aggregate-image-fits-2 c = sym (length-take-le _ _ (c .before .before .if2 .left))
-
-slice-aggregate-last-of : tie.Need-slice-aggregate-last-of
-slice-aggregate-last-of c = sym (length-take-le _ _ (omega arith))
-
-last-of-requires : tie.Need-last-of-requires
-last-of-requires c κs = search needs
+slice-aggregate-image-fits-2 c = sym (length-take-le _ _ (c .before .before .before .if2 .left))
 
 mul-image-fits : tie.Need-mul-image-fits
 mul-image-fits c = search needs
@@ -64,11 +57,11 @@ image-fits-requires c κs = search needs
 
 returns-3 : tie.Need-returns-3
 returns-3 c =
-    let last = c .before .before .before in
-    let tests = last .before .before .before .before in
+    let placed = c .before .before .before .before .before in
+    let tests = placed .before in
     let start = tests .before .before .before .before .before .before in
     c .image-fits .ensures
-    ∙ rw (image-parts (start .args .option) (now (start .args .ids)) (now (start .args .freqs)) _ _ (start .pre .checked .as-many) (last .last-of .ensures))
+    ∙ rw (image-parts (start .args .option) (now (start .args .ids)) (now (start .args .freqs)) _ _ (start .pre .checked .as-many) (placed .tail-of .ensures))
     (sym (fits-image (start .pre) (now (start .args .skips)) (now (start .args .postings)) (start .args .len) (tests .before .if1 .left) (tests .if2 .left)))
 
 pub list-fits-spec : {M : Type 1} → statement M
@@ -77,11 +70,9 @@ list-fits-spec =
     (tie.spec
     returns
     returns-2
-    mul-at
+    tail-of-requires
     slice-aggregate-image-fits
     slice-aggregate-image-fits-2
-    slice-aggregate-last-of
-    last-of-requires
     mul-image-fits
     sub-image-fits
     part-image-fits-start

@@ -1,7 +1,6 @@
 -- `serializer::list::put_list` meets its contract: what lies behind the full blocks is the tail.
 -- Assumes nothing.
 use mathlib.Core.Path.{sym}
-use native.Mathlib.Omega.{arith}
 use denote.Ref.{now}
 use lib.Seq.{length-take-le}
 use Rattle.serializer.proofs.Laws.BlockPlaces.{image-parts}
@@ -9,20 +8,14 @@ use borrow.Author.Needs.{needs}
 use Rattle.serializer.proofs.list.put_list.Statement.{statement}
 use Rattle.serializer.proofs.list.put_list.Tie as tie
 
-mul-at : tie.Need-mul-at
-mul-at c = search needs
+tail-of-requires : tie.Need-tail-of-requires
+tail-of-requires c κs = search needs
 
 slice-aggregate-put-image : tie.Need-slice-aggregate-put-image
-slice-aggregate-put-image c = sym (length-take-le _ _ (c .before .before .before .before .before .before .pre .entries-there))
+slice-aggregate-put-image c = sym (length-take-le _ _ (c .before .before .before .before .before .before .before .pre .entries-there))
 
 slice-aggregate-put-image-2 : tie.Need-slice-aggregate-put-image-2
-slice-aggregate-put-image-2 c = sym (length-take-le _ _ (c .before .before .before .before .before .before .before .pre .blocks-there))
-
-slice-aggregate-last-of : tie.Need-slice-aggregate-last-of
-slice-aggregate-last-of c = sym (length-take-le _ _ (omega arith))
-
-last-of-requires : tie.Need-last-of-requires
-last-of-requires c κs = search needs
+slice-aggregate-put-image-2 c = sym (length-take-le _ _ (c .before .before .before .before .before .before .before .before .pre .blocks-there))
 
 mul-put-image : tie.Need-mul-put-image
 mul-put-image c = search needs
@@ -56,20 +49,18 @@ same-length c = search needs
 
 returns : tie.Need-returns
 returns c =
-    let last = c .before .before .before .before .before .before in
-    let start = last .before .before .before .before .before .before .before .before .before in
-    rw (← image-parts (start .args .option) (now (start .args .ids)) (now (start .args .freqs)) _ _ (start .pre .as-many) (last .last-of .ensures))
+    let placed = c .before .before .before .before .before .before .before .before in
+    let start = placed .before .before .before .before .before .before in
+    rw (← image-parts (start .args .option) (now (start .args .ids)) (now (start .args .freqs)) _ _ (start .pre .as-many) (placed .tail-of .ensures))
     (c .before .before .put-image .ensures)
 
 pub put-list-spec : {M : Type 1} → statement M
 put-list-spec =
     tie.close
     (tie.spec
-    mul-at
+    tail-of-requires
     slice-aggregate-put-image
     slice-aggregate-put-image-2
-    slice-aggregate-last-of
-    last-of-requires
     mul-put-image
     sub-put-image
     part-put-image-start

@@ -5,33 +5,17 @@ use mathlib.Core.Bool.{true}
 use borrow.Author.Tests.{not-true, not-false}
 use denote.Ref.{now}
 use lib.ListN.{length}
-use Rattle.serializer.specs.Whole.{ListSized, listFits}
-use Rattle.serializer.proofs.Laws.BlockPlaces.{full-skips}
+use Rattle.serializer.specs.Whole.{listFits}
 use Rattle.serializer.proofs.list.ListCases.{put-refused, blocks-fit, parts-there, put-all}
 use borrow.Author.Needs.{needs}
 use Rattle.serializer.proofs.list.write_checked.Statement.{statement}
 use Rattle.serializer.proofs.list.write_checked.Tie as tie
 
-entries-size-requires : tie.Need-entries-size-requires
-entries-size-requires c κs = search needs
-
-blocks-size-requires : tie.Need-blocks-size-requires
-blocks-size-requires c κs = search needs
-
--- the sizes
-sized : (c : tie.After-blocks-size)
-    → let a = c .before .before .before .before .before .before .before .args in
-    ListSized (a .option) (now (a .ids)) (now (a .freqs)) (c .before .entries-size .result) (c .blocks-size .result)
-sized c =
-    let start = c .before .before .before .before .before .before .before in
-    record {
-      checked = start .pre;
-      entries-are = c .before .entries-size .ensures ∙ sym (full-skips _ (now (start .args .ids)) (now (start .args .freqs)));
-      size-is = c .blocks-size .ensures;
-    }
+list-sizes-requires : tie.Need-list-sizes-requires
+list-sizes-requires c κs = search needs
 
 list-fits-requires : tie.Need-list-fits-requires
-list-fits-requires c κs = sized (c .before .before)
+list-fits-requires c κs = search needs
 
 same-length : tie.Need-same-length
 same-length c = search needs
@@ -44,22 +28,23 @@ returns c = put-refused _ _ _ _ _ _ (sym (c .before .list-fits .ensures) ∙ not
 
 -- question 15 was answered yes
 room : (c : tie.Else1)
-    → let a = c .before .before .before .before .before .before .before .before .before .before .before .args in
+    → let a = c .before .before .before .before .before .before .before .before .before .before .args in
     listFits (a .option) (now (a .ids)) (now (a .freqs)) (now (a .skips)) (now (a .postings)) (length (now (a .output))) ≡ true
 room c = sym (c .before .list-fits .ensures) ∙ not-false _ (c .if1 .left)
 
 write-blocks-requires : tie.Need-write-blocks-requires
 write-blocks-requires c κs =
     let tested = c .before .before in
-    let start = tested .before .before .before .before .before .before .before .before .before .before .before in
+    let start = tested .before .before .before .before .before .before .before .before .before .before in
     (start .pre, blocks-fit _ _ _ _ _ (now (start .args .output)) (room tested))
 
 put-list-requires : tie.Need-put-list-requires
 put-list-requires c κs =
     let wrote = c .before .before .before .before .before .before .before in
     let tested = wrote .before .before .before in
-    let start = tested .before .before .before .before .before .before .before .before .before .before .before in
-    parts-there _ _ _ _ _ (now (start .args .output)) (room tested) (sized (tested .before .before .before .before)) (wrote .write-blocks .ensures)
+    let start = tested .before .before .before .before .before .before .before .before .before .before in
+    let sized = tested .before .before .before .before .list-sizes .ensures in
+    parts-there _ _ _ _ _ (now (start .args .output)) (room tested) sized (wrote .write-blocks .ensures)
 
 same-length-3 : tie.Need-same-length-3
 same-length-3 c = search needs
@@ -74,14 +59,14 @@ returns-2 : tie.Need-returns-2
 returns-2 c =
     let wrote = c .before .before .before .before .before .before .before .before .before .before in
     let tested = wrote .before .before .before in
-    put-all _ _ _ _ _ _ (room tested) (sized (tested .before .before .before .before)) (wrote .write-blocks .ensures) (c .before .before .put-list .ensures)
+    let sized = tested .before .before .before .before .list-sizes .ensures in
+    put-all _ _ _ _ _ _ (room tested) sized (wrote .write-blocks .ensures) (c .before .before .put-list .ensures)
 
 pub write-checked-spec : {M : Type 1} → statement M
 write-checked-spec =
     tie.close
     (tie.spec
-    entries-size-requires
-    blocks-size-requires
+    list-sizes-requires
     list-fits-requires
     same-length
     same-length-2
