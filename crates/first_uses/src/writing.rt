@@ -3,17 +3,21 @@
 use crate::telling::tell;
 use postings::Accepted;
 use postings::Written;
+use postings::ask_list;
 use postings::close_term;
 use postings::new_term;
 use postings::write_doc;
 use postings::write_list;
 
-// A whole list, mode 1, frequencies recorded: the image's length; a refusal changes nothing.
+// A whole list, mode 1, frequencies recorded: whether it would be accepted under an announced count of 3, and the image's length. A
+// refusal changes nothing.
 pub(crate) fn write_whole(output: &mut [u8]) -> usize {
     let ids = [3, 7, 300];
     let freqs = [1, 2, 130];
     let mut skips = [0u8; 8];
     let mut postings = [0u8; 1008];
+    let accepted = ask_list(1, true, &ids, &freqs, 3, &skips, &postings, output);
+    tell_accepted(accepted);
     match write_list(1, true, &ids, &freqs, &mut skips, &mut postings, output) {
         Written::Bytes(n) => n,
         Written::Refused(why) => {
@@ -23,7 +27,7 @@ pub(crate) fn write_whole(output: &mut [u8]) -> usize {
     }
 }
 
-// Whether a document was taken.
+// Whether a call took what it was handed, or would.
 fn tell_accepted(accepted: Accepted) {
     match accepted {
         Accepted::Yes => tell(b"taken", 1),

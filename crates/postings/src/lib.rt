@@ -18,9 +18,15 @@
 //     let answer = closed.answer;
 //     match answer { Written::Bytes(n) => .., Written::Refused(why) => .. }
 //
-// Each step's answer is such a `Written` too, with 0 bytes. Or the whole list at once, which refuses before it writes a byte:
+// The other calls say whether they took what they were handed, and a document that is refused isn't taken:
+//
+//     let accepted = step.answer;
+//     match accepted { Accepted::Yes => .., Accepted::Refused(why) => .. }
+//
+// Or the whole list at once, which refuses before it writes a byte; `ask_list` asks the same under an announced count and writes none:
 //
 //     match write_list(1, true, &ids, &freqs, &mut skips, &mut postings, &mut output) { Written::Bytes(n) => .., Written::Refused(why) => .. }
+//     match ask_list(1, true, &ids, &freqs, 3, &skips, &postings, &output) { Accepted::Yes => .., Accepted::Refused(why) => .. }
 //
 // For n documents 8 * (n / 128) bytes of `skips`, 1008 * (n / 128) of `postings` and 10 * n of `output` are always enough; without
 // recorded frequencies 5 * (n / 128), 496 * (n / 128) and 5 * n. Where the list needs more than is lent, that is 15.
@@ -115,6 +121,7 @@ pub use serializer::ClosedTerm;
 pub use serializer::PostingsSerializer;
 pub use serializer::Step;
 pub use serializer::Written;
+pub use serializer::ask_list;
 pub use serializer::close_term;
 pub use serializer::new_term;
 pub use serializer::write_doc;
