@@ -27,7 +27,7 @@ ghost use Prim.Native.Nat.{ℕ, _+_, _*_, _/_, _<_, _^_};
 ghost use lib.Dec.{eqb};
 ghost use lib.ListN.{length};
 ghost use Rattle.segment_postings.specs.Landing.{landing};
-ghost use Rattle.segment_postings.specs.Cursor.{inBounds, answering, opening, leastAfter, startsInside, leaving, stepping};
+ghost use Rattle.segment_postings.specs.Cursor.{inBounds, answerAt, answering, opening, leastAfter, startsInside, leaving, stepping};
 ghost use Rattle.segment_postings.specs.Calls.{cursorOf, Reaches};
 ghost use Rattle.segment_postings.specs.Private.{FoundThere, FindsFrom, loaded};
 
@@ -74,13 +74,11 @@ pub(crate) fn at_end(held: Held, term: Term) -> bool
     held.place == count % COMPRESSION_BLOCK_SIZE
 }
 
-// The document and the frequency at the position, at the end TERMINATED and 0. A place that no block has is refused: 16.
-pub fn answer_at(held: Held, term: Term, docs: &[u32; 128], freqs: &[u32; 128]) -> Answer
-    ensures { λ r. ⌜ r ≡ answering term (cursorOf held (now (docs .entry)) (now (freqs .entry))) ⌝ }
+// The document and the frequency at the position, for a place of a block; at the end TERMINATED and 0.
+pub(crate) fn shown_at(held: Held, term: Term, docs: &[u32; 128], freqs: &[u32; 128]) -> Answer
+    requires { ⌜ held .place < 128 ⌝ }
+    ensures { λ r. ⌜ r ≡ answerAt term (cursorOf held (now (docs .entry)) (now (freqs .entry))) ⌝ }
 {
-    if COMPRESSION_BLOCK_SIZE <= held.place {
-        return Answer::Refused(STATE_BROKEN);
-    }
     if at_end(held, term) {
         return Answer::At {
             doc: TERMINATED,
@@ -96,6 +94,16 @@ pub fn answer_at(held: Held, term: Term, docs: &[u32; 128], freqs: &[u32; 128]) 
         unpacked: held.unpacked,
         entries: held.entries,
     }
+}
+
+// The same for any place: one that no block has is refused (16).
+pub fn answer_at(held: Held, term: Term, docs: &[u32; 128], freqs: &[u32; 128]) -> Answer
+    ensures { λ r. ⌜ r ≡ answering term (cursorOf held (now (docs .entry)) (now (freqs .entry))) ⌝ }
+{
+    if COMPRESSION_BLOCK_SIZE <= held.place {
+        return Answer::Refused(STATE_BROKEN);
+    }
+    shown_at(held, term, docs, freqs)
 }
 
 // Unpacks a block that was found, and goes to its first place: questions 6 to 9.

@@ -6,11 +6,11 @@ use crate::Moved;
 use crate::Reached;
 use crate::SegmentPostings;
 use crate::Value;
-use crate::core::answer_at;
 use crate::core::at_end;
 use crate::core::in_bounds;
 use crate::core::leave;
 use crate::core::open_in;
+use crate::core::shown_at;
 use crate::layout::full_blocks;
 use crate::segment_postings::cursor_of;
 use crate::segment_postings::held_of;
@@ -124,7 +124,7 @@ pub fn seek(cursor: SegmentPostings, image: &[u8], term: Term, target: u32) -> M
     let was = held_of(cursor);
     match seek_in(was, image, term, target, &mut docs, &mut freqs) {
         Reached::At(held) => {
-            let answer = answer_at(held, term, &docs, &freqs);
+            let answer = shown_at(held, term, &docs, &freqs);
             Moved {
                 answer,
                 cursor: cursor_of(held, docs, freqs),

@@ -7,10 +7,10 @@ use crate::Reached;
 use crate::SegmentPostings;
 use crate::Value;
 use crate::core::advance_in;
-use crate::core::answer_at;
 use crate::core::at_end;
 use crate::core::in_bounds;
 use crate::core::open_in;
+use crate::core::shown_at;
 use format::COMPRESSION_BLOCK_SIZE;
 use format::STATE_BROKEN;
 use format::TERMINATED;
@@ -76,7 +76,7 @@ pub fn open(image: &[u8], term: Term) -> Moved
     let mut freqs = blank.freqs;
     match open_in(image, term, &mut docs, &mut freqs) {
         Reached::At(held) => {
-            let answer = answer_at(held, term, &docs, &freqs);
+            let answer = shown_at(held, term, &docs, &freqs);
             Moved {
                 answer,
                 cursor: cursor_of(held, docs, freqs),
@@ -98,7 +98,7 @@ pub fn advance(cursor: SegmentPostings, image: &[u8], term: Term) -> Moved
     let was = held_of(cursor);
     match advance_in(was, image, term, &mut docs, &mut freqs) {
         Reached::At(held) => {
-            let answer = answer_at(held, term, &docs, &freqs);
+            let answer = shown_at(held, term, &docs, &freqs);
             Moved {
                 answer,
                 cursor: cursor_of(held, docs, freqs),

@@ -17,10 +17,10 @@ use Rattle.segment_postings.specs.declared.Moved.{Moved}
 use Rattle.segment_postings.specs.declared.Reached.{Reached}
 use Rattle.segment_postings.specs.declared.Reached.the-variants as reached-as
 use Rattle.segment_postings.specs.declared.SegmentPostings.{SegmentPostings}
-use Rattle.segment_postings.specs.Cursor.{answering, moved, blank, opening, opened, stepping, advanced, seeking, sought}
+use Rattle.segment_postings.specs.Cursor.{answerAt, answering, moved, blank, opening, opened, stepping, advanced, seeking, sought}
 use Rattle.segment_postings.specs.Called.{SameCall}
 use Rattle.segment_postings.specs.Calls.{cursorOf, heldOf, Reaches}
-use Rattle.segment_postings.proofs.Laws.LandingParts.{reaches-as, same-cursor, reached-at, reached-nowhere, moved-at, moved-nowhere, opening-near}
+use Rattle.segment_postings.proofs.Laws.LandingParts.{answering-at, reaches-as, same-cursor, reached-at, reached-nowhere, moved-at, moved-nowhere, opening-near}
 use Rattle.segment_postings.proofs.Laws.ReachedBounds.{stepping-near, seeking-near}
 
 pub same-call : (t : Term) (was : SegmentPostings) {o : Outcome SegmentPostings} {docs freqs docs′ freqs′ : List ℕ} {r : Reached}
@@ -42,9 +42,9 @@ apart-calls t call c near e k = same-call t c near (reaches-as (ap call (sym (sa
 -- was taken apart where it was refused
 module _ {t : Term} {was : SegmentPostings} {m : Moved} {docs freqs docs′ freqs′ : List ℕ} {r : Reached}
     (s : SameCall t was m docs freqs docs′ freqs′ r) where
-  pub put-together : {held : Held} {a : Answer} {d : SegmentPostings} → r ≡ reached-as.At held → a ≡ answering t (cursorOf held docs′ freqs′)
-      → d ≡ cursorOf held docs′ freqs′ → record { answer = a; cursor = d } ≡ m
-  put-together e answers same = rw (answers, same) (sym (s .came e))
+  pub put-together : {held : Held} {a : Answer} {d : SegmentPostings} → r ≡ reached-as.At held → cursorOf held docs′ freqs′ .place < 128
+      → a ≡ answerAt t (cursorOf held docs′ freqs′) → d ≡ cursorOf held docs′ freqs′ → record { answer = a; cursor = d } ≡ m
+  put-together {held} e below answers same = rw (answers, ← answering-at t (cursorOf held docs′ freqs′) below, same) (sym (s .came e))
 
   pub put-back : (held : Held) {n : ℕ} {d : SegmentPostings} → r ≡ reached-as.Refused n → was ≡ cursorOf held docs freqs
       → d ≡ cursorOf held docs′ freqs′ → record { answer = answer-as.Refused n; cursor = d } ≡ m

@@ -255,16 +255,6 @@ answerAt-at t c {n} =
     (λ _ k. let z : _≡_ {A = ℕ} 0 1 = cc in omega arith)
     (λ _ k. let z : _≡_ {A = ℕ} 0 1 = cc in omega arith)
 
-module _ (t : Term) (c : SegmentPostings) (below : c .place < 128) where
-  pub answering-end : eqb (128 * c .block + c .place) (t .count) ≡ true → answering t c ≡ answer-as.At TERMINATED 0 (c .unpacked) (c .entries)
-  unfolding answerAt position choose
-  answering-end e = answering-at t c below ∙ rw e
-
-  pub answering-before : eqb (128 * c .block + c .place) (t .count) ≡ false
-      → answering t c ≡ answer-as.At (getD (c .docs) (c .place) 0) (getD (c .freqs) (c .place) 0) (c .unpacked) (c .entries)
-  unfolding answerAt position choose
-  answering-before e = answering-at t c below ∙ rw e
-
 -- an answer with its cursor
 pub moved-at : (t : Term) (before : SegmentPostings) {o : Outcome SegmentPostings} {a : Answer} {c m : SegmentPostings}
     → c .place < 128 → a ≡ answering t c → m ≡ c → o ≡ ok c → record { answer = a; cursor = m } ≡ moved t before o

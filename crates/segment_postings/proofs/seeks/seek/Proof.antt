@@ -2,7 +2,9 @@
 -- Assumes nothing.
 use mathlib.Core.Path.{sym}
 use borrow.Author.Needs.{needs}
-use Rattle.segment_postings.proofs.Laws.LandingParts.{same-cursor}
+use Rattle.segment_postings.specs.Calls.{cursorOf}
+use Rattle.segment_postings.proofs.Laws.LandingParts.{same-cursor, reached-at}
+use Rattle.segment_postings.proofs.Laws.ReachedBounds.{seeking-near}
 use Rattle.segment_postings.proofs.Laws.CallsByValue.{seek-apart, put-together, put-back}
 use Rattle.segment_postings.proofs.seeks.seek.Statement.{statement}
 use Rattle.segment_postings.proofs.seeks.seek.Tie as tie
@@ -16,8 +18,9 @@ seek-in-requires c κs = search needs
 enum-known-held : tie.Need-enum-known-held
 enum-known-held c = search needs
 
-answer-at-requires : tie.Need-answer-at-requires
-answer-at-requires c κs = search needs
+shown-at-requires : tie.Need-shown-at-requires
+unfolding cursorOf
+shown-at-requires c κs = let h = c .before .before .before in seeking-near _ _ _ _ (reached-at (h .before .before .seek-in .ensures) (h .held .given .1)) .0
 
 cursor-of-requires : tie.Need-cursor-of-requires
 cursor-of-requires c κs = search needs
@@ -34,7 +37,7 @@ returns c =
     let w = h .before .before in
     let k = w .before .before .before in
     put-together (seek-apart _ _ (k .before .before .before .before .args .cursor) (k .held-of .ensures) _ (w .seek-in .ensures)) (h .held .given .1)
-    (c .before .answer-at .ensures) (c .cursor-of .ensures)
+    (seeking-near _ _ _ _ (reached-at (w .seek-in .ensures) (h .held .given .1)) .0) (c .before .shown-at .ensures) (c .cursor-of .ensures)
 
 returns-2 : tie.Need-returns-2
 returns-2 c =
@@ -50,7 +53,7 @@ seek-spec =
     held-of-requires
     seek-in-requires
     enum-known-held
-    answer-at-requires
+    shown-at-requires
     cursor-of-requires
     enum-known-n
     cursor-of-requires-2

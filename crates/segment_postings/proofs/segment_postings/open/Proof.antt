@@ -1,6 +1,8 @@
 -- `segment_postings::segment_postings::open` meets its contract: where the core came to, put together, is where the definition comes to.
 -- Assumes nothing.
 use mathlib.Core.Path.{sym}
+use Rattle.segment_postings.specs.Calls.{cursorOf}
+use Rattle.segment_postings.proofs.Laws.LandingParts.{reached-at, opening-near}
 use Rattle.segment_postings.proofs.Laws.CallsByValue.{open-in-calls, put-together}
 use borrow.Author.Needs.{needs}
 use Rattle.segment_postings.proofs.segment_postings.open.Statement.{statement}
@@ -15,8 +17,9 @@ open-in-requires c κs = search needs
 enum-known-held : tie.Need-enum-known-held
 enum-known-held c = search needs
 
-answer-at-requires : tie.Need-answer-at-requires
-answer-at-requires c κs = search needs
+shown-at-requires : tie.Need-shown-at-requires
+unfolding cursorOf
+shown-at-requires c κs = let h = c .before .before .before in opening-near _ _ (reached-at (h .before .before .open-in .ensures) (h .held .given .1))
 
 cursor-of-requires : tie.Need-cursor-of-requires
 cursor-of-requires c κs = search needs
@@ -27,7 +30,9 @@ enum-known-n c = search needs
 returns : tie.Need-returns
 returns c =
     let h = c .before .before .before .before .before in
-    put-together (open-in-calls _ _ (h .before .before .open-in .ensures)) (h .held .given .1) (c .before .answer-at .ensures) (c .cursor-of .ensures)
+    let o = h .before .before .open-in .ensures in
+    put-together (open-in-calls _ _ o) (h .held .given .1) (opening-near _ _ (reached-at o (h .held .given .1))) (c .before .shown-at .ensures)
+    (c .cursor-of .ensures)
 
 returns-2 : tie.Need-returns-2
 returns-2 c =
@@ -42,7 +47,7 @@ open-spec =
     blank-requires
     open-in-requires
     enum-known-held
-    answer-at-requires
+    shown-at-requires
     cursor-of-requires
     enum-known-n
     returns
