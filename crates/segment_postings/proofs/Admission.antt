@@ -3,3 +3,4 @@ pub mod LandingReads
 pub mod WalkByBlocks
 pub mod WalkByCalls
 pub mod WalkReads
+pub mod WalkTurns

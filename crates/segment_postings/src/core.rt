@@ -26,8 +26,8 @@ ghost use mathlib.Core.List.{List};
 ghost use Prim.Native.Nat.{ℕ, _+_, _*_, _/_, _<_, _^_};
 ghost use lib.Dec.{eqb};
 ghost use lib.ListN.{length};
-ghost use Rattle.segment_postings.specs.Landing.{landing};
-ghost use Rattle.segment_postings.specs.Cursor.{inBounds, answerAt, answering, opening, leastAfter, startsInside, leaving, stepping};
+ghost use Rattle.segment_postings.specs.Landing.{firstStart, landing};
+ghost use Rattle.segment_postings.specs.Cursor.{inBounds, answerAt, answering, opening, leastAfter, startsInside, startBehind, leaving, stepping};
 ghost use Rattle.segment_postings.specs.Calls.{cursorOf, Reaches};
 ghost use Rattle.segment_postings.specs.Private.{FoundThere, FindsFrom, loaded};
 
@@ -154,19 +154,26 @@ pub(crate) fn land(
     }
 }
 
+// Block 0, before anything is read.
+pub(crate) fn first_start(layout: Layout) -> Start
+    ensures { λ r. ⌜ r ≡ firstStart layout ⌝ }
+{
+    Start {
+        block: 0,
+        at: layout.postings,
+        least: 0,
+        entries: 0,
+        unpacked: 0,
+    }
+}
+
 // Opens a list at its first document: questions 1 to 4, then entry 0, if any, and block 0.
 pub fn open_in(image: &[u8], term: Term, docs: &mut [u32; 128], freqs: &mut [u32; 128]) -> Reached
     ensures { λ r. ⌜ Reaches (opening (now (image .entry)) term) (now (docs .entry)) (now (freqs .entry)) (now (docs .exit)) (now (freqs .exit)) r ⌝ }
 {
     match lay_out(image, term) {
         Laid::At(layout) => {
-            let from = Start {
-                block: 0,
-                at: layout.postings,
-                least: 0,
-                entries: 0,
-                unpacked: 0,
-            };
+            let from = first_start(layout);
             land(image, term, layout, 0, from, docs, freqs)
         }
         Laid::Refused(n) => Reached::Refused(n),
@@ -181,6 +188,20 @@ fn least_after(last_doc: u32) -> u32
         last_doc + 1
     } else {
         TERMINATED
+    }
+}
+
+// The block behind the held one.
+pub(crate) fn start_behind(held: Held) -> Start
+    requires { ⌜ held .block + 1 < 2 ^ 64 ⌝ }
+    ensures { λ r. ⌜ ((docs freqs : List ℕ) → r ≡ startBehind (cursorOf held docs freqs)) ⌝ }
+{
+    Start {
+        block: held.block + 1,
+        at: held.next,
+        least: least_after(held.last_doc),
+        entries: held.entries,
+        unpacked: held.unpacked,
     }
 }
 
@@ -209,18 +230,10 @@ pub(crate) fn leave(
 {
     match lay_out(image, term) {
         Laid::At(layout) => {
-            let block = held.block + 1;
-            let next = held.next;
-            if !starts_inside(term, layout, block, next) {
+            let from = start_behind(held);
+            if !starts_inside(term, layout, from.block, from.at) {
                 return Reached::Refused(ENTRY_BROKEN);
             }
-            let from = Start {
-                block,
-                at: next,
-                least: least_after(held.last_doc),
-                entries: held.entries,
-                unpacked: held.unpacked,
-            };
             land(image, term, layout, target, from, docs, freqs)
         }
         Laid::Refused(again) => Reached::Refused(again),

@@ -2,8 +2,9 @@
 
 use crate::Reached;
 use crate::Value;
+use crate::core::first_start;
 use crate::core::land;
-use crate::find::Start;
+use crate::core::start_behind;
 use crate::layout::Laid;
 use crate::layout::full_blocks;
 use crate::layout::lay_out;
@@ -78,31 +79,20 @@ fn total_laid(image: &[u8], term: Term, layout: Layout, target: u32) -> Value
     let blocks = full_blocks(term.count);
     let mut docs = [TERMINATED; 128];
     let mut freqs = [1; 128];
-    let mut block = 0;
-    let mut at = layout.postings;
-    let mut least = 0;
+    let mut from = first_start(layout);
     let mut passed = 0;
     loop {
-        let from = Start {
-            block,
-            at,
-            least,
-            entries: block,
-            unpacked: block,
-        };
         match land(image, term, layout, 0, from, &mut docs, &mut freqs) {
             Reached::At(held) => {
-                let front = block_below(term, block, &docs, &freqs, target);
+                let front = block_below(term, from.block, &docs, &freqs, target);
                 passed += front.freqs;
                 if !front.whole {
                     return Value::Is(passed);
                 }
-                if blocks <= block {
+                if blocks <= from.block {
                     return Value::Is(passed);
                 }
-                block += 1;
-                at = held.next;
-                least = held.last_doc + 1;
+                from = start_behind(held);
             }
             Reached::Refused(n) => return Value::Refused(n),
         }

@@ -2,9 +2,10 @@
 
 use crate::Reached;
 use crate::Value;
+use crate::core::first_start;
 use crate::core::land;
+use crate::core::start_behind;
 use crate::counts::docs_in;
-use crate::find::Start;
 use crate::layout::Laid;
 use crate::layout::full_blocks;
 use crate::layout::lay_out;
@@ -43,27 +44,16 @@ fn read_laid(image: &[u8], term: Term, layout: Layout, docs: &mut [u32], freqs: 
     let blocks = full_blocks(term.count);
     let mut ids = [TERMINATED; 128];
     let mut counts = [1; 128];
-    let mut block = 0;
-    let mut at = layout.postings;
-    let mut least = 0;
+    let mut from = first_start(layout);
     loop {
-        let from = Start {
-            block,
-            at,
-            least,
-            entries: block,
-            unpacked: block,
-        };
         match land(image, term, layout, 0, from, &mut ids, &mut counts) {
             Reached::At(held) => {
-                put_block(term, block, &ids, docs);
-                put_block(term, block, &counts, freqs);
-                if blocks <= block {
+                put_block(term, from.block, &ids, docs);
+                put_block(term, from.block, &counts, freqs);
+                if blocks <= from.block {
                     return;
                 }
-                block += 1;
-                at = held.next;
-                least = held.last_doc + 1;
+                from = start_behind(held);
             }
             Reached::Refused(_) => return,
         }

@@ -63,20 +63,26 @@ module _ (n filler : ℕ) (values : List ℕ) (many : length values ≡ n) where
   padded-room h = simp (length-append, length-replicate) (omega arith)
 
 -- what a cursor at the first place of a block holds
-record HeldOf (f : Found) (block : Block) (h : Held) (docs freqs : List ℕ) : Type 0 where
+record HeldOf (f : Found) (unpacked : ℕ) (block : Block) (h : Held) (docs freqs : List ℕ) : Type 0 where
   docs-are : docs ≡ padded TERMINATED (block .docs)
   freqs-are : freqs ≡ padded 1 (block .freqs)
+  block-is : h .block ≡ f .block
   next-is : h .next ≡ f .at + blockSize (f .info)
   last-is : h .«last_doc» ≡ f .info .«last_doc»
+  entries-are : h .entries ≡ f .entries
+  unpacked-is : h .unpacked ≡ unpacked + 1
 
-held-of : (f : Found) (unpacked : ℕ) (block : Block) {h : Held} {docs freqs : List ℕ} → holding f unpacked block ≡ cursorOf h docs freqs → HeldOf f block h docs freqs
+held-of : (f : Found) (unpacked : ℕ) (block : Block) {h : Held} {docs freqs : List ℕ} → holding f unpacked block ≡ cursorOf h docs freqs → HeldOf f unpacked block h docs freqs
 unfolding holding cursorOf
 held-of f unpacked block e =
     record {
       docs-are = ap (λ (c : SegmentPostings). c .docs) (sym e);
       freqs-are = ap (λ (c : SegmentPostings). c .freqs) (sym e);
+      block-is = ap (λ (c : SegmentPostings). c .block) (sym e);
       next-is = ap (λ (c : SegmentPostings). c .next) (sym e);
       last-is = ap (λ (c : SegmentPostings). c .«last_doc») (sym e);
+      entries-are = ap (λ (c : SegmentPostings). c .entries) (sym e);
+      unpacked-is = ap (λ (c : SegmentPostings). c .unpacked) (sym e);
     }
 
 -- ---- the walk
@@ -102,6 +108,9 @@ module _ (t : Term) (l : Layout) (bs : List ℕ) (b at least : ℕ) where
     pub last-is : h .«last_doc» ≡ entry .«last_doc»
     pub last-below : h .«last_doc» < TERMINATED
     pub inside : h .next ≤ length bs
+    pub block-is : h .block ≡ b
+    pub entries-are : h .entries ≡ b + 1
+    pub unpacked-is : h .unpacked ≡ b + 1
 
   pub record BlockHeld (h : Held) (docs freqs : List ℕ) : Type 0 where
     pub block : Block
@@ -158,6 +167,9 @@ module _ (t : Term) (l : Layout) (bs : List ℕ) (b at least : ℕ) where
                 last-below = omega (arith, there .last-is, ap (λ (f : Found). f .info .«last_doc») is, fits .last-below);
                 inside =
                     omega (arith, there .next-is ∙ ap (λ (f : Found). f .at + blockSize (f .info)) is, fits .bytes, length-drop at bs, start-inside);
+                block-is = there .block-is ∙ rw is;
+                entries-are = there .entries-are ∙ rw is;
+                unpacked-is = there .unpacked-is;
               };
         }
 

@@ -259,11 +259,11 @@ module _ (t : Term) (bs : List ℕ) (l : Layout) (laid : layout t bs ≡ ok l) w
     step-leaves some =
         let in-it : 128 * b + 127 < t .count = omega (arith, whole-count t) in
         let bounds = bounds 127 (omega arith) (omega arith) in
-        let least : d .«last_doc» + 1 ≡ min (d .«last_doc» + 1) TERMINATED = omega (arith, k .held .next some .last-below) in
+        let least : min (d .«last_doc» + 1) TERMINATED ≡ d .«last_doc» + 1 = omega (arith, k .held .next some .last-below) in
         let one-more : d .entries ≡ b + 1 = omega (arith, k .entries-are) in
         stepping-leaves (atPlace d 127) bs t bounds (ne-eqb (128 * d .block + 127) (t .count) (λ e. omega (arith, k .block-is))) (omega arith)
-        ∙ leaving-laid (atPlace d 127) bs t 0 laid (starts-behind t l (d .block + 1) (d .next) (next-behind some)) least
-        ∙ rw (k .block-is, one-more, k .unpacked-is)
+        ∙ leaving-laid (atPlace d 127) bs t 0 laid (starts-behind t l (d .block + 1) (d .next) (next-behind some))
+        ∙ rw (k .block-is, least, one-more, k .unpacked-is)
 
     -- it is passed
     pub passed-on : b < fullBlocks t → BlocksPassed (b + 1) (d .next) (d .«last_doc» + 1) (k .front ++ (block ∷ []))

@@ -33,7 +33,7 @@ use Rattle.segment_postings.specs.declared.Answer.the-variants as answer
 use Rattle.segment_postings.specs.declared.Reached.{Reached}
 use Rattle.segment_postings.specs.declared.Reached.the-variants as reached-as
 use Rattle.segment_postings.specs.Landing.{firstStart, findBlock, loadBlock, holding, landing}
-use Rattle.segment_postings.specs.Cursor.{position, inBounds, opening, atPlace, leastAfter, startsInside, leaving, stepping, answerAt, answering, moved}
+use Rattle.segment_postings.specs.Cursor.{position, inBounds, opening, atPlace, startsInside, startBehind, leaving, stepping, answerAt, answering, moved}
 use Rattle.segment_postings.specs.Calls.{cursorOf, heldOf, reached, Reaches}
 use Rattle.segment_postings.specs.Private.{laid, searched, counted, loaded, FindsFrom, BlockLoaded}
 use Rattle.segment_postings.proofs.core.Question16.{Bounded, bounded}
@@ -163,12 +163,10 @@ module _ (bs : List ℕ) (t : Term) where
   opens-from e = record { laid-out = e; block-most = omega arith; inside = laid-out t bs e .inside; entries-most = omega arith }
 
 module _ (c : SegmentPostings) (bs : List ℕ) (t : Term) where
-  pub leaving-laid : (target : ℕ) {l : Layout} {least : ℕ} → layout t bs ≡ ok l → startsInside t l (c .block + 1) (c .next) ≡ true
-      → least ≡ leastAfter (c .«last_doc»)
-      → leaving c bs t target
-      ≡ landing t bs l target (record { block = c .block + 1; at = c .next; least = least; entries = c .entries; unpacked = c .unpacked })
+  pub leaving-laid : (target : ℕ) {l : Layout} → layout t bs ≡ ok l → startsInside t l (c .block + 1) (c .next) ≡ true
+      → leaving c bs t target ≡ landing t bs l target (startBehind c)
   unfolding leaving andThen ask
-  leaving-laid target e inside least = rw (e, inside, least)
+  leaving-laid target e inside = rw (e, inside)
 
   pub leaving-early : (target : ℕ) {l : Layout} → layout t bs ≡ ok l → startsInside t l (c .block + 1) (c .next) ≡ false
       → leaving c bs t target ≡ refused entryBroken
@@ -179,10 +177,9 @@ module _ (c : SegmentPostings) (bs : List ℕ) (t : Term) where
   unfolding leaving andThen
   leaving-refused target e = rw e
 
-  pub leaves-from : {l : Layout} (least : ℕ) → Bounded t bs c → c .block < t .count / 128 → layout t bs ≡ ok l
-      → FindsFrom t l bs (record { block = c .block + 1; at = c .next; least = least; entries = c .entries; unpacked = c .unpacked })
+  pub leaves-from : {l : Layout} → Bounded t bs c → c .block < t .count / 128 → layout t bs ≡ ok l → FindsFrom t l bs (startBehind c)
   unfolding fullBlocks
-  leaves-from least b full e = record { laid-out = e; block-most = omega arith; inside = b .next-inside; entries-most = b .entries-behind }
+  leaves-from b full e = record { laid-out = e; block-most = omega arith; inside = b .next-inside; entries-most = b .entries-behind }
 
   -- ---- a step
 

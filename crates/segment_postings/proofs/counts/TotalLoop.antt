@@ -22,44 +22,45 @@ use Rattle.format.specs.Counts.{countBelow, sum, totalIn}
 use Rattle.format.proofs.Below.{count-le}
 use Rattle.segment_postings.specs.declared.counts.Front.{Front}
 use Rattle.segment_postings.specs.declared.Held.{Held}
-use Rattle.segment_postings.specs.Landing.{landing}
+use Rattle.segment_postings.specs.declared.find.Start.{Start}
+use Rattle.segment_postings.specs.Calls.{cursorOf}
+use Rattle.segment_postings.specs.Cursor.{startBehind}
+use Rattle.segment_postings.specs.Landing.{firstStart, landing}
 use Rattle.segment_postings.specs.Passed.{docsIn, FrontOf}
-use Rattle.segment_postings.proofs.Admission.LandingReads.{BlockHeld, landing-none, reads-first, reads-on, reads-last}
-use Rattle.segment_postings.proofs.layout.SplitParts.{laid-out}
+use Rattle.segment_postings.proofs.Admission.LandingReads.{BlockHeld, reads-first, reads-last}
 use Rattle.segment_postings.proofs.counts.TotalInBlocks.{added, added-zero, added-twice, total-refused, total-ended, total-stops, total-passes}
-use Rattle.segment_postings.proofs.Admission.WalkReads.{walking, readingAt, reading-whole}
+use Rattle.segment_postings.proofs.Admission.WalkTurns.{WalksFrom, readingFrom, walks-first, turn-none, turn}
 
 -- each frequency is below 2 ^ 32, so that a block adds less than 2 ^ 39
-pub record Walked (t : Term) (l : Layout) (bs : List ℕ) (target b at least passed : ℕ) : Type 0 where
-  pub block-most : b ≤ fullBlocks t
-  pub inside : at ≤ length bs
-  pub passed-most : passed ≤ b * 549755813760
-  pub total-is : totalIn target (reading t bs) ≡ added passed (totalIn target (readingAt t l bs b at least))
+pub record Walked (t : Term) (l : Layout) (bs : List ℕ) (target : ℕ) (s : Start) (passed : ℕ) : Type 0 where
+  pub walks : WalksFrom t l bs s
+  pub passed-most : passed ≤ s .block * 549755813760
+  pub total-is : totalIn target (reading t bs) ≡ added passed (totalIn target (readingFrom t l bs s))
 
-pub walked-none : (t : Term) (l : Layout) (bs : List ℕ) (target : ℕ) → layout t bs ≡ ok l → Walked t l bs target 0 (l .postings) 0 0
-walked-none t l bs target e =
+pub walked-none : (t : Term) (l : Layout) (bs : List ℕ) (target : ℕ) {s : Start} → layout t bs ≡ ok l → s ≡ firstStart l → Walked t l bs target s 0
+walked-none t l bs target e is =
+    let first = walks-first t l bs e is in
     record {
-      block-most = omega arith;
-      inside = laid-out t bs e .inside;
+      walks = first .0;
       passed-most = omega arith;
-      total-is = ap (λ (r : Reading). totalIn target r) (reading-whole t l bs e) ∙ sym (added-zero _);
+      total-is = ap (λ (r : Reading). totalIn target r) (first .1) ∙ sym (added-zero _);
     }
 
-module _ {t : Term} {l : Layout} {bs : List ℕ} {target b at least passed : ℕ} (w : Walked t l bs target b at least passed) where
+module _ {t : Term} {l : Layout} {bs : List ℕ} {target : ℕ} {s : Start} {passed : ℕ} (w : Walked t l bs target s passed) where
   -- ---- a block that is refused
 
-  pub walk-refused : {n : ℕ} → landing t bs l 0 (walking b at least) ≡ refused n → totalIn target (reading t bs) ≡ refused n
+  pub walk-refused : {n : ℕ} → landing t bs l 0 s ≡ refused n → totalIn target (reading t bs) ≡ refused n
   unfolding added
   walk-refused {n} e =
-      let none = landing-none t l bs b at least e in
+      let none = turn-none t l bs (w .walks) e in
       w .total-is
       ∙ ap (λ (r : Reading). added passed (totalIn target r)) (none .reads)
       ∙ ap (λ (o : Outcome ℕ). added passed o) (total-refused target n (none .numbered))
 
   -- ---- the block that is held
 
-  module _ {h : Held} {docs freqs : List ℕ} (k : BlockHeld t l bs b at least h docs freqs)
-      (r : Front) (f : FrontOf (take (docsIn t b) docs) (take (docsIn t b) freqs) target r) where
+  module _ {h : Held} {docs freqs : List ℕ} (k : BlockHeld t l bs (s .block) (s .at) (s .least) h docs freqs)
+      (r : Front) (f : FrontOf (take (docsIn t (s .block)) docs) (take (docsIn t (s .block)) freqs) target r) where
     -- as many documents are passed
     abbrev n : ℕ
     n = countBelow target (k .block .docs)
@@ -76,7 +77,7 @@ module _ {t : Term} {l : Layout} {bs : List ℕ} {target b at least passed : ℕ
     pub walk-stops : r .whole ≡ false → totalIn target (reading t bs) ≡ ok (passed + r .freqs)
     unfolding added
     walk-stops short =
-        let behind = reads-first t l bs b at least k in
+        let behind = reads-first t l bs (s .block) (s .at) (s .least) k in
         let fewer : n < length (k .block .docs) =
         ⊎-elim (λ e. absurd (eqb-false _ _ (sym whole-is ∙ short) e)) (λ h. h) (eq-or-lt-of-le (count-le target (k .block .docs))) in
         w .total-is
@@ -86,7 +87,7 @@ module _ {t : Term} {l : Layout} {bs : List ℕ} {target b at least passed : ℕ
 
     module _ (whole : r .whole ≡ true) where
       -- a block that is passed whole, and what is read behind it
-      passes : (rest : Reading) → readingAt t l bs b at least ≡ (before (ok (k .block)) λ _. rest)
+      passes : (rest : Reading) → readingFrom t l bs s ≡ (before (ok (k .block)) λ _. rest)
           → totalIn target (reading t bs) ≡ added (passed + r .freqs) (totalIn target rest)
       passes rest e =
           let all : n ≡ length (k .block .docs) = eqb-true _ _ (sym whole-is ∙ whole) in
@@ -98,18 +99,18 @@ module _ {t : Term} {l : Layout} {bs : List ℕ} {target b at least passed : ℕ
           ∙ added-twice passed (sum (k .block .freqs)) (totalIn target rest)
           ∙ ap (λ (m : ℕ). added (passed + m) (totalIn target rest)) freqs-all
 
-      pub walk-ends : fullBlocks t ≤ b → totalIn target (reading t bs) ≡ ok (passed + r .freqs)
+      pub walk-ends : fullBlocks t ≤ s .block → totalIn target (reading t bs) ≡ ok (passed + r .freqs)
       unfolding added
       walk-ends past =
-          passes (nothing 0) (reads-last t l bs b at least k past)
+          passes (nothing 0) (reads-last t l bs (s .block) (s .at) (s .least) k past)
           ∙ ap (λ (o : Outcome ℕ). added (passed + r .freqs) o) (total-ended target)
           ∙ ap (λ (m : ℕ). ok m) (add-zero (passed + r .freqs))
 
-      pub walk-goes-on : b < fullBlocks t → Walked t l bs target (b + 1) (h .next) (h .«last_doc» + 1) (passed + r .freqs)
-      walk-goes-on some =
+      pub walk-goes-on : {s′ : Start} → s .block < fullBlocks t → s′ ≡ startBehind (cursorOf h docs freqs) → Walked t l bs target s′ (passed + r .freqs)
+      walk-goes-on some is =
+          let next = turn t l bs (w .walks) k some is in
           record {
-            block-most = omega arith;
-            inside = k .next some .inside;
-            passed-most = omega (arith, w .passed-most, f .freqs-most);
-            total-is = passes _ (reads-on t l bs b at least k some);
+            walks = next .walks;
+            passed-most = omega (arith, w .passed-most, f .freqs-most, next .block-is);
+            total-is = passes _ (next .reads);
           }

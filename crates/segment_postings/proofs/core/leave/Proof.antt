@@ -8,6 +8,7 @@ use borrow.Author.Tests.{not-true, not-false}
 use Rattle.format.specs.Basics.{ok}
 use Rattle.format.specs.Layout.{layout}
 use Rattle.segment_postings.specs.Calls.{cursorOf}
+use Rattle.segment_postings.specs.Cursor.{startBehind}
 use Rattle.segment_postings.proofs.core.Question16.{Bounded, bounded}
 use Rattle.segment_postings.proofs.Laws.LandingParts.{laid-at, laid-refused, reaches-as, none-reached, leaving-laid, leaving-early, leaving-refused, leaves-from}
 use borrow.Author.Needs.{needs}
@@ -27,11 +28,14 @@ few : (s : tie.Start) → s .args .held .unpacked + 1 < 2 ^ 64
 unfolding cursorOf
 few s = omega (arith, in-bounds s)
 
-add-block : tie.Need-add-block
+start-behind-requires : tie.Need-start-behind-requires
 unfolding cursorOf
-add-block c =
-    let s = c .before .before .before .before .before .before in
-    omega (arith, in-bounds s)
+start-behind-requires c κs = omega (arith, in-bounds (c .before .before .before .before .before))
+
+-- the start behind the held block
+behind : (k : tie.After-start-behind) → let s = k .before .before .before .before .before .before in
+    k .start-behind .result ≡ startBehind (cursorOf (s .args .held) (s .args .docs .now) (s .args .freqs .now))
+behind k = k .start-behind .ensures _ _
 
 starts-inside-requires : tie.Need-starts-inside-requires
 starts-inside-requires c κs = search needs
@@ -44,17 +48,15 @@ returns : tie.Need-returns
 unfolding cursorOf
 returns c =
     let k = c .before in
-    none-reached _ _ (leaving-early _ _ _ _ (laid (k .before .before .before)) (sym (k .starts-inside .ensures) ∙ not-true _ (c .if1 .taken)))
-
-least-after-requires : tie.Need-least-after-requires
-least-after-requires c κs = search needs
+    none-reached _ _ (leaving-early _ _ _ _ (laid (k .before .before .before)) (rw (behind (k .before)) at (sym (k .starts-inside .ensures) ∙ not-true _ (c .if1 .taken))))
 
 land-requires : tie.Need-land-requires
 unfolding cursorOf
 land-requires c κs =
-    let l = c .before .before .before .before .before .before .before in
+    let k = c .before .before .before .before in
+    let l = k .before .before in
     let s = l .before .before .before .before in
-    (leaves-from _ _ _ _ (in-bounds s) (s .pre .1) (laid l), few s)
+    rw (behind k) (leaves-from _ _ _ (in-bounds s) (s .pre .1) (laid l), few s)
 
 enum-known-again : tie.Need-enum-known-again
 enum-known-again c = search needs
@@ -62,14 +64,11 @@ enum-known-again c = search needs
 returns-2 : tie.Need-returns-2
 unfolding cursorOf
 returns-2 c =
-    let after = c .before .before .before in
-    let k = after .before .before in
+    let e = c .before .before .before in
+    let k = e .before in
     reaches-as
-    (leaving-laid _ _ _ _
-    (laid (k .before .before .before))
-    (sym (k .starts-inside .ensures) ∙ not-false _ (after .before .if1 .left))
-    (after .least-after .ensures))
-    (c .land .ensures)
+    (leaving-laid _ _ _ _ (laid (k .before .before .before)) (rw (behind (k .before)) at (sym (k .starts-inside .ensures) ∙ not-false _ (e .if1 .left))))
+    (rw (behind (k .before)) at (c .land .ensures))
 
 returns-3 : tie.Need-returns-3
 returns-3 c =
@@ -81,10 +80,9 @@ leave-spec =
     (tie.spec
     lay-out-requires
     enum-known-layout
-    add-block
+    start-behind-requires
     starts-inside-requires
     returns
-    least-after-requires
     land-requires
     enum-known-again
     returns-2

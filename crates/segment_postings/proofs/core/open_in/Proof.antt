@@ -13,18 +13,25 @@ lay-out-requires c κs = search needs
 enum-known-layout : tie.Need-enum-known-layout
 enum-known-layout c = search needs
 
+first-start-requires : tie.Need-first-start-requires
+first-start-requires c κs = search needs
+
 land-requires : tie.Need-land-requires
 land-requires c κs =
-    let l = c .before .before .before in
-    (opens-from _ _ (laid-at _ (sym (l .before .before .lay-out .ensures) ∙ l .layout .given .1)), omega arith)
+    let f = c .before .before in
+    let l = f .before .before in
+    rw (f .first-start .ensures) (opens-from _ _ (laid-at _ (sym (l .before .before .lay-out .ensures) ∙ l .layout .given .1)), omega arith)
 
 enum-known-n : tie.Need-enum-known-n
 enum-known-n c = search needs
 
 returns : tie.Need-returns
 returns c =
-    let l = c .before .before .before .before in
-    reaches-as (opening-laid _ _ (laid-at _ (sym (l .before .before .lay-out .ensures) ∙ l .layout .given .1))) (c .land .ensures)
+    let f = c .before .before .before in
+    let l = f .before .before in
+    reaches-as
+    (opening-laid _ _ (laid-at _ (sym (l .before .before .lay-out .ensures) ∙ l .layout .given .1)))
+    (rw (f .first-start .ensures) at (c .land .ensures))
 
 returns-2 : tie.Need-returns-2
 returns-2 c =
@@ -33,4 +40,4 @@ returns-2 c =
 pub open-in-spec : {M : Type 1} → statement M
 open-in-spec =
     tie.close
-    (tie.spec lay-out-requires enum-known-layout land-requires enum-known-n returns returns-2)
+    (tie.spec lay-out-requires enum-known-layout first-start-requires land-requires enum-known-n returns returns-2)

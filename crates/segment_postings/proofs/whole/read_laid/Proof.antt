@@ -3,11 +3,11 @@
 -- the full blocks left.
 -- Assumes nothing.
 use mathlib.Core.Path.{sym}
-use Prim.Native.Nat.{_+_, _-_, _^_, _<_}
+use Prim.Native.Nat.{_-_, _^_, _<_}
 use native.Mathlib.Omega.{arith}
 use Rattle.format.specs.Layout.{fullBlocks}
-use Rattle.segment_postings.proofs.Admission.LandingReads.{BlockHeld, block-held}
-use Rattle.segment_postings.proofs.Admission.WalkReads.{walking-from}
+use Rattle.segment_postings.proofs.Admission.LandingReads.{BlockHeld}
+use Rattle.segment_postings.proofs.Admission.WalkTurns.{lands-from, turn-held, turn}
 use Rattle.segment_postings.proofs.Laws.LandingParts.{reached-at, reached-nowhere}
 use Rattle.segment_postings.proofs.whole.ReadLoop.{Copied, copied-none, never-refused, docs-room, freqs-room}
 use Rattle.segment_postings.proofs.whole.ReadLoop.{docs-kept, freqs-kept, copy-goes-on, copy-ends}
@@ -16,28 +16,31 @@ use Rattle.segment_postings.proofs.whole.read_laid.Statement.{statement
 use Rattle.segment_postings.proofs.whole.read_laid.Tie as tie
 
 abbrev Inv-loop : tie.InvT-loop
-Inv-loop image term layout docs₀ freqs₀ blocks ids₀ counts₀ block₀ at₀ least₀ docs freqs ids counts block at least =
-    Copied term layout image docs₀ freqs₀ block at least docs freqs
+Inv-loop image term layout docs₀ freqs₀ blocks ids₀ counts₀ from₀ docs freqs ids counts from = Copied term layout image docs₀ freqs₀ from docs freqs
 
 abbrev μ-loop : tie.MeasureT-loop
-μ-loop image term layout docs₀ freqs₀ blocks ids₀ counts₀ block₀ at₀ least₀ docs freqs ids counts block at least =
-    fullBlocks term - block
+μ-loop image term layout docs₀ freqs₀ blocks ids₀ counts₀ from₀ docs freqs ids counts from = fullBlocks term - from .block
 
 full-blocks-requires : tie.Need-full-blocks-requires Inv-loop μ-loop
 full-blocks-requires c κs = tt
 
-loop-holds : tie.Need-loop-holds Inv-loop μ-loop
-loop-holds c = copied-none _ _ _ _ _ (c .before .before .before .before .pre)
+first-start-requires : tie.Need-first-start-requires Inv-loop μ-loop
+first-start-requires c κs = tt
 
-few : (p : tie.At-loop Inv-loop μ-loop) → p .loop .block + 1 < 2 ^ 64
-unfolding fullBlocks
-few p = omega (arith, p .loop .inv .block-most)
+loop-holds : tie.Need-loop-holds Inv-loop μ-loop
+loop-holds c = copied-none _ _ _ _ _ (c .before .before .before .before .before .pre) (c .first-start .ensures)
+
+-- where the turn began
+abbrev start : tie.At-loop Inv-loop μ-loop → tie.Start Inv-loop μ-loop
+start p = p .before .before .before .before .before .before
+
+few : (p : tie.At-loop Inv-loop μ-loop) → start p .args .term .count < 2 ^ 32
+few p = omega arith
 
 land-requires : tie.Need-land-requires Inv-loop μ-loop
 land-requires c κs =
     let p = c .before .before in
-    let s = p .before .before .before .before .before in
-    (walking-from _ _ _ (s .pre .laid-out) (p .loop .inv .block-most) (p .loop .inv .inside), few p)
+    lands-from _ _ _ (p .loop .inv .walks) (few p)
 
 enum-known-held : tie.Need-enum-known-held Inv-loop μ-loop
 enum-known-held c = search needs
@@ -46,13 +49,13 @@ enum-known-held c = search needs
 held : (c : tie.After-held Inv-loop μ-loop) →
     let a = c .before .before in
     let p = a .before .before .before in
-    let s = p .before .before .before .before .before in
-    BlockHeld (s .args .term) (s .args .layout) (s .args .image .now) (p .loop .block) (p .loop .at) (p .loop .least) (c .held .given .0 .0)
-    (a .land .last .1 .1 .1 .1 .1 .0) (a .land .last .1 .1 .1 .1 .1 .1 .0)
+    let s = start p in
+    BlockHeld (s .args .term) (s .args .layout) (s .args .image .now) (p .loop .from .block) (p .loop .from .at) (p .loop .from .least)
+    (c .held .given .0 .0) (a .land .last .1 .1 .1 .1 .1 .0) (a .land .last .1 .1 .1 .1 .1 .1 .0)
 held c =
     let a = c .before .before in
     let p = a .before .before .before in
-    block-held _ _ _ _ _ _ (p .loop .inv .inside) (reached-at (a .land .ensures) (c .held .given .1))
+    turn-held _ _ _ (p .loop .inv .walks) (reached-at (a .land .ensures) (c .held .given .1))
 
 slice-aggregate-put-block : tie.Need-slice-aggregate-put-block Inv-loop μ-loop
 slice-aggregate-put-block c = sym (held (c .before .before) .docs-room)
@@ -86,39 +89,44 @@ module _ (c : tie.After-slice-known4 Inv-loop μ-loop) where
 
 same-length : tie.Need-same-length Inv-loop μ-loop
 same-length c =
-    let k = c .before in
+    let k = c .before .before in
     docs-kept (head k .loop .inv) (held (landed k)) (first k .put-block .ensures) (second k .put-block2 .ensures)
 
 same-length-2 : tie.Need-same-length-2 Inv-loop μ-loop
 same-length-2 c =
-    let k = c .before in
+    let k = c .before .before in
     freqs-kept (head k .loop .inv) (held (landed k)) (first k .put-block .ensures) (second k .put-block2 .ensures)
 
 returns : tie.Need-returns Inv-loop μ-loop
 unfolding fullBlocks
 returns c =
-    let k = c .before in
+    let k = c .before .before in
     copy-ends (head k .loop .inv) (held (landed k)) (first k .put-block .ensures) (second k .put-block2 .ensures)
-    (omega (arith, c .if1 .taken, head k .before .full-blocks .ensures))
-
-add-block : tie.Need-add-block Inv-loop μ-loop
-add-block c = omega (arith, few (head (c .before)))
+    (omega (arith, c .if1 .taken, head k .before .before .full-blocks .ensures))
 
 -- the block is a full one
-some : (c : tie.Else1 Inv-loop μ-loop) → head (c .before) .loop .block < fullBlocks (head (c .before) .before .before .before .before .before .args .term)
-unfolding fullBlocks
-some c = omega (arith, c .if1 .left, head (c .before) .before .full-blocks .ensures)
+module _ (c : tie.Else1 Inv-loop μ-loop) where
+  abbrev copied : tie.After-slice-known4 Inv-loop μ-loop
+  copied = c .before .before
 
-add-least : tie.Need-add-least Inv-loop μ-loop
-add-least c = omega (arith, held (landed (c .before .before)) .next (some (c .before)) .last-below)
+  some : head copied .loop .from .block < fullBlocks (start (head copied) .args .term)
+  unfolding fullBlocks
+  some = omega (arith, c .if1 .left, head copied .before .before .full-blocks .ensures)
+
+start-behind-requires : tie.Need-start-behind-requires Inv-loop μ-loop
+unfolding fullBlocks
+start-behind-requires c κs = omega (arith, held (landed (copied c)) .next (some c) .block-is, some c, few (head (copied c)))
 
 loop-less : tie.Need-loop-less Inv-loop μ-loop
-loop-less c = omega (arith, some (c .before))
+loop-less c =
+    let k = copied (c .before) in
+    omega (arith, some (c .before), turn _ _ _ (head k .loop .inv .walks) (held (landed k)) (some (c .before)) (c .start-behind .ensures _ _) .block-is)
 
 loop-again : tie.Need-loop-again Inv-loop μ-loop
 loop-again c =
-    let k = c .before .before in
+    let k = copied (c .before) in
     copy-goes-on (head k .loop .inv) (held (landed k)) (first k .put-block .ensures) (second k .put-block2 .ensures) (some (c .before))
+    (c .start-behind .ensures _ _)
 
 enum-told : tie.Need-enum-told Inv-loop μ-loop
 enum-told c = search needs
@@ -145,6 +153,7 @@ read-laid-spec =
     Inv-loop
     μ-loop
     full-blocks-requires
+    first-start-requires
     loop-holds
     land-requires
     enum-known-held
@@ -155,8 +164,7 @@ read-laid-spec =
     same-length
     same-length-2
     returns
-    add-block
-    add-least
+    start-behind-requires
     loop-less
     loop-again
     enum-told
