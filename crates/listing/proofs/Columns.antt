@@ -54,7 +54,7 @@ module _ (text : List ℕ) where
     pub all-read : length text ≤ at → Reads (rows (lines (drop start text))) firsts seconds (parsed-as.Rows n)
     unfolding taken count rows onward
     all-read past = record {
-      columns-are = sym (k .so-far ∙ rw (drop-of-length-le text past, lines-none, append-nil, append-nil));
+      columns-are = sym (k .so-far ∙ rw (drop-of-length-le text past, lines-none, append-nil (take n firsts), append-nil (take n seconds)));
       within = k .few;
     }
 

@@ -116,7 +116,7 @@ pub lines-at : (text : List ℕ) (at : ℕ) → at < length text →
 lines-at text at h =
     let first : lines (drop at text) ≡ upTo 10 (drop at text) ∷ lines (behind 10 (drop at text)) =
     rw (drop-cons text at 0 h) (lines-first (getD text at 0) (drop (suc at) text)) in
-    first ∙ rw (← behind-drop 10 (drop at text), drop-drop, add-suc, add-one)
+    first ∙ rw (← behind-drop 10 (drop at text), drop-drop, add-suc at (length (upTo 10 (drop at text))), add-one)
 
 pub lines-none : lines [] ≡ []
 unfolding lines
