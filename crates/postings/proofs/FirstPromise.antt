@@ -8,7 +8,7 @@
 use mathlib.Core.Bool.{Bool, true, not, _&&_ as and, _||_ as or, and-eq-true-iff}
 use mathlib.Core.List.{List, [], _∷_}
 use mathlib.Core.Logic.{_↔_}
-use mathlib.Core.Path.{_≡_, refl, sym, _∙_}
+use mathlib.Core.Path.{_≡_, refl, sym, ap, _∙_}
 use Prim.Native.Nat.{ℕ, _+_, _≤_, _<_, _^_}
 use native.Mathlib.Omega.{arith}
 use borrow.Author.Tests.{le-leb, eq-eqb}
@@ -30,11 +30,12 @@ use Rattle.serializer.specs.declared.Step.{Step}
 use Rattle.serializer.specs.declared.Written.{Written}
 use Rattle.serializer.specs.declared.Written.the-variants.{Bytes, Refused}
 use Rattle.serializer.specs.Writer.{Areas, listing, closing}
-use Rattle.serializer.specs.Calls.{accepted, answered, Settled, Closed, Listed}
+use Rattle.serializer.specs.Calls.{accepted, answered, acceptedNumber, writtenNumbers, Settled, Closed, Listed}
 use Rattle.serializer.proofs.Laws.WholeList.{whole-list-writes}
 use Rattle.segment_postings.specs.Admission.{Meets, MeetsNone}
 use Rattle.segment_postings.proofs.Admission.AdmissionExact.{admission-admits, admission-refuses}
 use Rattle.postings.specs.FirstPromise.{Acceptable}
+use Rattle.postings.proofs.WriterNumbers.{listing-numbered, zero-bytes, bytes-numbers, above-no, above-refused}
 
 -- ---- accepted lists
 
@@ -100,14 +101,17 @@ module _ (mode : ℕ) (recording : Bool) (ds fs skips postings output : List ℕ
       whole-list-writes mode recording ds fs skips postings output .1
       (accepted-written mode recording ds fs (a .mode-known) (a .accepted), a .has-room)
 
-  -- a list is accepted exactly then: `write_list` answers a number of bytes, and else a refusal
+  -- a list is accepted exactly then: `write_list` answers 0 and a number of bytes, and else a refusal's number
   pub list-accepted : {skips′ postings′ output′ : List ℕ} {r : Written} → Listed mode recording ds fs skips postings output skips′ postings′ output′ r
-      → ((n : ℕ) × (r ≡ Bytes n)) ↔ Acceptable mode recording ds fs skips postings output
+      → ((n : ℕ) × (writtenNumbers r ≡ 0 ∷ n ∷ [])) ↔ Acceptable mode recording ds fs skips postings output
   unfolding answered
-  list-accepted l = (
-    λ b. listed-acceptable (bytes-answered length _ (sym (l .answer) ∙ b .1) .1),
-    λ a. (length (image (keptIn mode recording) ds fs), l .answer ∙ rw (acceptable-listed a)),
-  )
+  list-accepted {r = r} l =
+      let o : Outcome (List ℕ) = listing mode recording ds fs skips postings output in
+      let bytes : (n : ℕ) → writtenNumbers r ≡ 0 ∷ n ∷ [] → answered length o ≡ Bytes n =
+      λ n e. zero-bytes length o (listing-numbered ds fs mode recording skips postings output) (ap writtenNumbers (sym (l .answer)) ∙ e) in (
+        λ b. listed-acceptable (bytes-answered length o (bytes (b .0) (b .1)) .1),
+        λ a. (length (image (keptIn mode recording) ds fs), bytes-numbers (l .answer ∙ rw (acceptable-listed a))),
+      )
 
 -- ---- admitted images
 
@@ -120,28 +124,33 @@ image-admitted mode count bs e = rw e (admission-admits mode count bs, admission
 
 -- ---- refusals leave all as it was; those of the cursor are `refused-stays` in ThirdPromise.antt
 
--- a document, by `write_doc`
-pub refused-document : {o : Outcome Areas} {s : PostingsSerializer} {skips postings skips′ postings′ : List ℕ} {r : Step} {n : ℕ}
+pub document-stays : {o : Outcome Areas} {s : PostingsSerializer} {skips postings skips′ postings′ : List ℕ} {r : Step} {n : ℕ}
     → Settled o s skips postings skips′ postings′ r → r .answer ≡ No n
     → (r .state ≡ s) × (skips′ ≡ skips) × (postings′ ≡ postings)
 unfolding orBefore
-refused-document {o} h e =
+document-stays {o} h e =
     let no = not-accepted o (sym (h .answer) ∙ e) in
     (rw no at (h .state), rw no at (h .skips-after), rw no at (h .postings-after))
 
+-- a document, by `write_doc`: any answer but 0
+pub refused-document : {o : Outcome Areas} {s : PostingsSerializer} {skips postings skips′ postings′ : List ℕ} {r : Step}
+    → Settled o s skips postings skips′ postings′ r → 0 < acceptedNumber (r .answer)
+    → (r .state ≡ s) × (skips′ ≡ skips) × (postings′ ≡ postings)
+refused-document {r = r} h above = document-stays h (above-no (r .answer) above)
+
 -- closing, by `close_term`
 pub refused-closing : (s : PostingsSerializer) (announced : ℕ) (skips postings output : List ℕ) {output′ : List ℕ} {r : ClosedTerm} {n : ℕ}
-    → Closed s announced skips postings output output′ r → r .answer ≡ Refused n → (r .state ≡ s) × (output′ ≡ output)
+    → Closed s announced skips postings output output′ r → 0 < n → writtenNumbers (r .answer) ≡ n ∷ 0 ∷ [] → (r .state ≡ s) × (output′ ≡ output)
 unfolding orBefore
-refused-closing s announced skips postings output h e =
-    let no = refusal-answered length (closing s announced skips postings output) (sym (h .answer) ∙ e) in
+refused-closing s announced skips postings output {r = r} h above e =
+    let no = refusal-answered length (closing s announced skips postings output) (sym (h .answer) ∙ above-refused (r .answer) above e) in
     (rw no at (h .state), rw no at (h .output-after))
 
 -- a whole list, by `write_list`
 pub refused-list : (mode : ℕ) (recording : Bool) (ds fs skips postings output : List ℕ) {skips′ postings′ output′ : List ℕ} {r : Written} {n : ℕ}
-    → Listed mode recording ds fs skips postings output skips′ postings′ output′ r → r ≡ Refused n
+    → Listed mode recording ds fs skips postings output skips′ postings′ output′ r → 0 < n → writtenNumbers r ≡ n ∷ 0 ∷ []
     → (skips′ ≡ skips) × (postings′ ≡ postings) × (output′ ≡ output)
 unfolding orBefore
-refused-list mode recording ds fs skips postings output h e =
-    let no = refusal-answered length (listing mode recording ds fs skips postings output) (sym (h .answer) ∙ e) in
+refused-list mode recording ds fs skips postings output {r = r} h above e =
+    let no = refusal-answered length (listing mode recording ds fs skips postings output) (sym (h .answer) ∙ above-refused r above e) in
     (rw no at (h .skips-after), rw no at (h .postings-after), rw no at (h .output-after))

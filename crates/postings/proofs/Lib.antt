@@ -6,3 +6,4 @@ pub mod ThirdPromise
 mod ValueNumbers
 pub mod VisitedBlocks
 pub mod WorkedCalls
+mod WriterNumbers

@@ -30,7 +30,7 @@ use Rattle.serializer.specs.declared.ClosedTerm.{ClosedTerm}
 use Rattle.serializer.specs.declared.Written.the-variants.{Bytes}
 use Rattle.serializer.specs.declared.PostingsSerializer.{PostingsSerializer}
 use Rattle.serializer.specs.declared.Step.{Step}
-use Rattle.serializer.specs.Calls.{accepted, answered, beginning, Settled, Took, Closed}
+use Rattle.serializer.specs.Calls.{accepted, answered, acceptedNumber, writtenNumbers, beginning, Settled, Took, Closed}
 use Rattle.serializer.specs.Whole.{fullBlocks, blocksFit}
 use Rattle.serializer.specs.Writer.{Areas, fresh, begun, taking, takeAll, listing}
 use Rattle.serializer.proofs.Laws.BlockPlaces.{front-fits, blocks-room}
@@ -38,7 +38,8 @@ use Rattle.serializer.proofs.Laws.WholeList.{whole-list-writes}
 use Rattle.serializer.proofs.SingleCalls.TakenDocuments.{TakenAll, taken-all}
 use Rattle.serializer.proofs.SingleCalls.WritesList.{single-calls-write}
 use Rattle.postings.specs.FirstPromise.{Acceptable}
-use Rattle.postings.proofs.FirstPromise.{bytes-answered, listed-acceptable, acceptable-listed, refused-document}
+use Rattle.postings.proofs.FirstPromise.{bytes-answered, listed-acceptable, acceptable-listed, document-stays}
+use Rattle.postings.proofs.WriterNumbers.{begun-numbered, closing-numbered, zero-yes, zero-bytes, bytes-numbers}
 use Rattle.postings.specs.WriterCalls.{areasOf, Handed, none, next, TermWritten, taken, allYes, AllAccepted}
 
 -- ---- the calls leave what those of the documents taken leave
@@ -62,7 +63,7 @@ module _ {a b : Areas} (d f : ℕ) (ds fs : List ℕ) (answers : List Accepted) 
       → takeAll (a .state) (taken (x ∷ answers) (d ∷ ds)) (taken (x ∷ answers) (f ∷ fs)) (a .skips) (a .postings) ≡ ok b
   unfolding taken
   next-taken Yes e = takeAll-ok (a .state) d f (taken answers ds) (taken answers fs) (a .skips) (a .postings) (settled-yes t e) later
-  next-taken (Refused n) e = let same = refused-document t e in rw (same .0, same .1, same .2) at later
+  next-taken (Refused n) e = let same = document-stays t e in rw (same .0, same .1, same .2) at later
 
 pub handed-taken : {a b : Areas} {ds fs : List ℕ} {answers : List Accepted} → Handed a ds fs answers b
     → takeAll (a .state) (taken answers ds) (taken answers fs) (a .skips) (a .postings) ≡ ok b
@@ -239,6 +240,18 @@ handed-yes {c = c} (next {d = d} {f} {ds} {fs} {r = r} {answers} t later) all =
 module _ (mode : ℕ) (recording : Bool) (ds fs : List ℕ) (announced : ℕ) (skips postings output : List ℕ) (small : AllBelow (2 ^ 32) fs)
     {answers : List Accepted} {left : Areas} {output′ : List ℕ} {r : ClosedTerm}
     (t : TermWritten mode recording ds fs announced skips postings output answers left output′ r) where
+  -- the numbers tell a yes, and bytes
+  begins-yes : acceptedNumber (t .begun .answer) ≡ 0 → t .begun .answer ≡ Yes
+  unfolding beginning
+  begins-yes e =
+      let is : t .begun .answer ≡ accepted (begun mode recording) = ap (λ s. s .answer) (t .begins) in
+      is ∙ zero-yes (begun mode recording) (begun-numbered mode recording) (ap acceptedNumber (sym is) ∙ e)
+
+  closing-bytes : {n : ℕ} → writtenNumbers (r .answer) ≡ 0 ∷ n ∷ [] → r .answer ≡ Bytes n
+  closing-bytes e =
+      t .closed .answer
+      ∙ zero-bytes length _ (closing-numbered (left .state) announced (left .skips) (left .postings) output) (ap writtenNumbers (sym (t .closed .answer)) ∙ e)
+
   begins-known : t .begun .answer ≡ Yes → mode ≤ 1
   unfolding beginning begun
   begins-known granted = leb-true mode 1 (ask-ok _ _ _ (accepted-yes (begun mode recording) .0 (sym (ap (λ s. s .answer) (t .begins)) ∙ granted) .1) .0)
@@ -256,25 +269,26 @@ module _ (mode : ℕ) (recording : Bool) (ds fs : List ℕ) (announced : ℕ) (s
 
   accepted-listed : AllAccepted (t .begun) answers r → (announced ≡ length ds) × (listing mode recording ds fs skips postings output ≡ ok (image (keptIn mode recording) ds fs))
   accepted-listed a =
-      let known = begins-known (a .begins) in
+      let known = begins-known (begins-yes (a .begins)) in
+      let closes-bytes = closing-bytes (a .closes) in
       let ids = taken-whole answers ds (handed-answers handed) (a .takes) in
       let freqs = taken-whole answers fs (handed-answers handed ∙ handed-many handed) (a .takes) in
-      let k = closes mode recording skips postings known handed small (t .closed) (a .closes) in
-      let listed = closed-listed mode recording skips postings known handed small (t .closed) (a .closes) in
+      let k = closes mode recording skips postings known handed small (t .closed) closes-bytes in
+      let listed = closed-listed mode recording skips postings known handed small (t .closed) closes-bytes in
       (k .0 ∙ ap length ids, rw (ids, freqs) at listed)
 
   listed-accepted : announced ≡ length ds → listing mode recording ds fs skips postings output ≡ ok (image (keptIn mode recording) ds fs) → AllAccepted (t .begun) answers r
-  unfolding answered
+  unfolding answered acceptedNumber
   listed-accepted same e =
       let p = whole-list-writes mode recording ds fs skips postings output .0 e in
       let w = written-ok mode recording ds fs small (p .0) in
       let calls = single-calls-write mode recording ds fs skips postings small (p .0) (p .1 .skips-fit) (p .1 .postings-fit) in
       let all = handed-yes handed (calls .takes) in
       record {
-        begins = known-begins (w .mode-known);
+        begins = ap acceptedNumber (known-begins (w .mode-known));
         takes = all .0;
         bytes = length (image (keptIn mode recording) ds fs);
-        closes = t .closed .answer ∙ rw (all .1, same, calls .closes output (p .1 .output-fit));
+        closes = bytes-numbers (t .closed .answer ∙ rw (all .1, same, calls .closes output (p .1 .output-fit)));
       }
 
   -- promise 1 of the order, for single calls: a list is accepted exactly if `write_list` accepts it and its count is the announced one

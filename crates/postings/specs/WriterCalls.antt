@@ -9,11 +9,10 @@ use Prim.Native.Nat.{ℕ}
 use Rattle.serializer.specs.declared.Accepted.{Accepted}
 use Rattle.serializer.specs.declared.Accepted.the-variants.{Yes, Refused}
 use Rattle.serializer.specs.declared.ClosedTerm.{ClosedTerm}
-use Rattle.serializer.specs.declared.Written.the-variants.{Bytes}
 use Rattle.serializer.specs.declared.PostingsSerializer.{PostingsSerializer}
 use Rattle.serializer.specs.declared.Step.{Step}
 use Rattle.serializer.specs.Writer.{Areas}
-use Rattle.serializer.specs.Calls.{beginning, Took, Closed}
+use Rattle.serializer.specs.Calls.{acceptedNumber, writtenNumbers, beginning, Took, Closed}
 
 abbrev pub areasOf : PostingsSerializer → (skips postings : List ℕ) → Areas
 areasOf s skips postings = record { state = s; skips = skips; postings = postings }
@@ -45,9 +44,9 @@ allYes [] = true
 allYes (Yes ∷ answers) = allYes answers
 allYes (Refused n ∷ answers) = false
 
--- every call says yes, and closing gives bytes
+-- every call says yes, and closing answers 0 and a number of bytes
 pub record AllAccepted (begun : Step) (answers : List Accepted) (closed : ClosedTerm) : Type 0 where
-  pub begins : begun .answer ≡ Yes
+  pub begins : acceptedNumber (begun .answer) ≡ 0
   pub takes : allYes answers ≡ true
   pub bytes : ℕ
-  pub closes : closed .answer ≡ Bytes bytes
+  pub closes : writtenNumbers (closed .answer) ≡ 0 ∷ bytes ∷ []
