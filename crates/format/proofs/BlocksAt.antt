@@ -17,7 +17,7 @@ use Rattle.format.specs.Reading.{Block, tailBlock, Reading, nothing, bef
 use Rattle.format.proofs.Outcome.{Numbered}
 use Rattle.format.proofs.SoundBlock.{ReadFull, entryBlock-read, tailBlock-sound, entryBlock-numbered, tailBlock-numbered}
 use Rattle.format.proofs.Blocks.{Blocks, last-one, one-more, noBlock, blockAt, leastAt}
-use Rattle.format.proofs.Opened.{readFrom-zero, readFrom-suc}
+use Rattle.format.proofs.Opened.{walkBy, readFrom-zero, readFrom-suc}
 
 -- ---- a walk to the end
 
@@ -39,11 +39,11 @@ module _ (option : IndexRecordOption) (wanted alone : Bool) (tail : ℕ) where
   -- n full blocks behind the first one
   abbrev pub Behind : ℕ → List ℕ → List ℕ → Block → List Block → Type 0
   Behind n skips bs b later =
-      readFrom option wanted alone tail n (b .last + 1) (drop (entrySize option) skips) (drop (blockSize (readEntry option skips)) bs)
+      readFrom (walkBy option wanted alone tail) n (b .last + 1) (drop (entrySize option) skips) (drop (blockSize (readEntry option skips)) bs)
       ≡ through later
 
   pub first-full : (n least : ℕ) (skips bs : List ℕ) {all : List Block}
-      → readFrom option wanted alone tail (suc n) least skips bs ≡ through all
+      → readFrom (walkBy option wanted alone tail) (suc n) least skips bs ≡ through all
       → (b : Block) × (later : List Block) × (all ≡ b ∷ later) × ReadFull option wanted least skips bs b × Behind n skips bs b later
   first-full n least skips bs h =
       let p = before-through _ _ (entryBlock-numbered option wanted least skips bs) (sym (readFrom-suc option wanted alone tail n least skips bs) ∙ h) in
@@ -51,7 +51,7 @@ module _ (option : IndexRecordOption) (wanted alone : Bool) (tail : ℕ) where
       (p .0, p .1, p .4, r, rw (r .last-is) (p .3))
 
   pub only-tail : (least : ℕ) (skips bs : List ℕ) {all : List Block}
-      → readFrom option wanted alone tail zero least skips bs ≡ through all
+      → readFrom (walkBy option wanted alone tail) zero least skips bs ≡ through all
       → (b : Block) × (all ≡ b ∷ []) × (tailBlock option wanted alone tail least bs ≡ ok b)
   unfolding nothing
   only-tail least skips bs h =
@@ -59,7 +59,7 @@ module _ (option : IndexRecordOption) (wanted alone : Bool) (tail : ℕ) where
       (p .0, p .4 ∙ ap (λ (r : Reading). p .0 ∷ r .blocks) (sym (p .3)), p .2)
 
   pub read-blocks : (n least : ℕ) (skips bs : List ℕ) {all : List Block}
-      → readFrom option wanted alone tail n least skips bs ≡ through all → Blocks tail n least all
+      → readFrom (walkBy option wanted alone tail) n least skips bs ≡ through all → Blocks tail n least all
   read-blocks zero least skips bs h =
       let p = only-tail least skips bs h in
       rw (p .1) (last-one (tailBlock-sound option wanted alone tail least bs (p .2)))
@@ -86,13 +86,13 @@ drop-more (y ∷ l) zero d h = (cc, cc)
 drop-more (y ∷ l) (suc b) d h = drop-more l b d h
 
 module _ (option : IndexRecordOption) (wanted alone : Bool) (tail n least : ℕ) (skips bs : List ℕ) (all : List Block)
-    (sound : readFrom option wanted alone tail n least skips bs ≡ through all) where
+    (sound : readFrom (walkBy option wanted alone tail) n least skips bs ≡ through all) where
   abbrev bytesAt : ℕ → List ℕ
   bytesAt b = drop (bytesBefore option skips b) bs
 
   -- block b, where what is read from it on is what the whole walk reads without the b blocks before
   full-of : (b : ℕ) → b < n
-      → readFrom option wanted alone tail (n - b) (leastAt least all b) (skipsAt option skips b) (bytesAt b) ≡ through (drop b all)
+      → readFrom (walkBy option wanted alone tail) (n - b) (leastAt least all b) (skipsAt option skips b) (bytesAt b) ≡ through (drop b all)
       → ReadFull option wanted (leastAt least all b) (skipsAt option skips b) (bytesAt b) (blockAt all b)
       × Behind option wanted alone tail (n - suc b) (skipsAt option skips b) (bytesAt b) (blockAt all b) (drop (suc b) all)
   full-of b h r =
@@ -102,7 +102,7 @@ module _ (option : IndexRecordOption) (wanted alone : Bool) (tail n least : ℕ)
       rw (d .0, d .1) (p .3, p .4)
 
   pub blocks-at : (b : ℕ) → b ≤ n
-      → readFrom option wanted alone tail (n - b) (leastAt least all b) (skipsAt option skips b) (bytesAt b) ≡ through (drop b all)
+      → readFrom (walkBy option wanted alone tail) (n - b) (leastAt least all b) (skipsAt option skips b) (bytesAt b) ≡ through (drop b all)
   blocks-at zero h = rw (sub-zero, mul-zero) sound
   blocks-at (suc b) h =
       let entries : entrySize option * suc b ≡ entrySize option * b + entrySize option = omega arith in

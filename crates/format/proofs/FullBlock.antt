@@ -27,7 +27,7 @@ use Rattle.format.proofs.Values.{length-gaps, length-reduced, gaps-read
 use Rattle.format.proofs.Values.{reduced-below, countable-below, rising-last}
 use Rattle.format.proofs.SkipEntry.{entry-length, entry-reads-back}
 use Rattle.format.proofs.ImageParts.{withBlock, withBlock-skips, withBlock-postings}
-use Rattle.format.proofs.Opened.{fullDocs-is, fullFreqs-unread, fullFreqs-read}
+use Rattle.format.proofs.Opened.{walkBy, fullDocs-is, fullFreqs-unread, fullFreqs-read}
 use Rattle.format.proofs.Opened.{fullBlock-is, entryBlock-is, readFrom-suc}
 
 -- values below 2 ^ 32 unpack at their width
@@ -116,6 +116,6 @@ module _ (option : IndexRecordOption) (least : ℕ) (ds fs : List ℕ) (a : Acce
       rw (entryBlock-is, entry-read, fits, fullBlock-is, docs-read, freqs, a .rises, eq-eqb (lastOf 0 ds) _ refl)
 
   pub block-reads-back : (wanted alone : Bool) (tail n : ℕ)
-      → readFrom option wanted alone tail (suc n) least (it .skips) (it .postings)
-      ≡ (before (ok (block wanted)) λ _. readFrom option wanted alone tail n (lastOf 0 ds + 1) (rest .skips) (rest .postings))
+      → readFrom (walkBy option wanted alone tail) (suc n) least (it .skips) (it .postings)
+      ≡ (before (ok (block wanted)) λ _. readFrom (walkBy option wanted alone tail) n (lastOf 0 ds + 1) (rest .skips) (rest .postings))
   block-reads-back wanted alone tail n = rw (readFrom-suc, block-read, entry-read, skips-behind, postings-behind)

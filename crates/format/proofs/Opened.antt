@@ -22,7 +22,7 @@ use Rattle.format.specs.declared.Term.{Term}
 use Rattle.format.specs.Layout.{fullBlocks, tailLength, sized, split, layout, skipBytes, postingBytes}
 use Rattle.format.specs.declared.Layout.{Layout}
 use Rattle.format.specs.Reading.{fullDocs, fullFreqs, fullBlock, numbers, ended, tailFreqs, tailHasFreq, tailBlock}
-use Rattle.format.specs.Reading.{nothing, before, entryBlock, readFrom, readAll, reading, soundness}
+use Rattle.format.specs.Reading.{nothing, before, entryBlock, Walk, walkOf, readFrom, readAll, reading, soundness}
 
 -- ---- laid out
 
@@ -122,23 +122,27 @@ pub tailBlock-is : (option : IndexRecordOption) (wanted alone : Bool) (n least :
 unfolding tailBlock
 tailBlock-is option wanted alone n least bs = refl
 
+-- a walk by its parts
+abbrev pub walkBy : IndexRecordOption → (wanted alone : Bool) → ℕ → Walk
+walkBy option wanted alone tail = record { option = option; wanted = wanted; alone = alone; tail = tail }
+
 pub readFrom-zero : (option : IndexRecordOption) (wanted alone : Bool) (tail least : ℕ) (skips bs : List ℕ)
-    → readFrom option wanted alone tail zero least skips bs
+    → readFrom (walkBy option wanted alone tail) zero least skips bs
     ≡ (before (tailBlock option wanted alone tail least bs) λ _. nothing 0)
 unfolding readFrom
 readFrom-zero option wanted alone tail least skips bs = refl
 
 pub readFrom-suc : (option : IndexRecordOption) (wanted alone : Bool) (tail n least : ℕ) (skips bs : List ℕ)
-    → readFrom option wanted alone tail (suc n) least skips bs
+    → readFrom (walkBy option wanted alone tail) (suc n) least skips bs
     ≡ (before (entryBlock option wanted least skips bs) λ _.
     let e : BlockInfo = readEntry option skips in
-    readFrom option wanted alone tail n (e .«last_doc» + 1) (drop (entrySize option) skips) (drop (blockSize e) bs))
+    readFrom (walkBy option wanted alone tail) n (e .«last_doc» + 1) (drop (entrySize option) skips) (drop (blockSize e) bs))
 unfolding readFrom
 readFrom-suc option wanted alone tail n least skips bs = refl
 
 pub readAll-ok : (t : Term) (bs : List ℕ) (l : Layout)
     → readAll t bs (ok l)
-    ≡ readFrom (l .option) (ltb 0 (t .requested)) (eqb (fullBlocks t) 0) (tailLength t) (fullBlocks t) 0 (skipBytes l bs) (postingBytes l bs)
+    ≡ readFrom (walkOf t l) (fullBlocks t) 0 (skipBytes l bs) (postingBytes l bs)
 unfolding readAll
 readAll-ok t bs l = refl
 

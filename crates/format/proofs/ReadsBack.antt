@@ -20,7 +20,7 @@ use Rattle.format.specs.Layout.{fullBlocks, tailLength}
 use Rattle.format.specs.Reading.{Block, Reading, nothing, before, readFrom, reading, soundness, docsOf, freqsOf}
 use Rattle.format.specs.ReadsBack.{readFreqs, ReadsBack}
 use Rattle.format.proofs.ImageParts.{parts, headed, parts-zero, parts-suc, headed-zero, image-is}
-use Rattle.format.proofs.Opened.{readFrom-zero, readAll-ok, reading-is, soundness-is}
+use Rattle.format.proofs.Opened.{walkBy, readFrom-zero, readAll-ok, reading-is, soundness-is}
 use Rattle.format.proofs.Accepted.{accepted-take, accepted-drop, accepted-length, written-ok}
 use Rattle.format.proofs.ReadFreqs.{readFreqs-append}
 use Rattle.format.proofs.FullBlock.{block-reads-back}
@@ -40,7 +40,7 @@ in-front b rest d f r =
 walk-tail : (option reader : IndexRecordOption) (wanted alone : Bool) (least : ℕ) (ds fs skips : List ℕ)
     → Accepted option least ds fs → Finds reader option alone (length ds) fs
     → ReadsBack ds (readFreqs (and (hasFreq option) wanted) fs)
-    (readFrom reader wanted alone (length ds) zero least skips (parts option zero least ds fs .postings))
+    (readFrom (walkBy reader wanted alone (length ds)) zero least skips (parts option zero least ds fs .postings))
 walk-tail option reader wanted alone least ds fs skips a finds =
     rw (readFrom-zero, parts-zero, tail-reads-back option reader wanted alone least ds fs a finds)
     (in-front _ _ (append-nil ds) (append-nil _) at-end)
@@ -48,7 +48,7 @@ walk-tail option reader wanted alone least ds fs skips a finds =
 walk-blocks : (option : IndexRecordOption) (wanted alone : Bool) (tail n least : ℕ) (ds fs : List ℕ)
     → Accepted option least ds fs → length ds ≡ 128 * n + tail
     → ReadsBack ds (readFreqs (and (hasFreq option) wanted) fs)
-    (readFrom option wanted alone tail n least (parts option n least ds fs .skips) (parts option n least ds fs .postings))
+    (readFrom (walkBy option wanted alone tail) n least (parts option n least ds fs .skips) (parts option n least ds fs .postings))
 walk-blocks option wanted alone tail zero least ds fs a e =
     let all : tail ≡ length ds = omega arith in
     rw all (walk-tail option option wanted alone least ds fs _ a (finds-own option alone ds fs (a .as-many)))

@@ -24,7 +24,7 @@ use Rattle.format.proofs.Outcome.{ok-same, ask-ok, andThen-ok, ask-yes,
 use Rattle.format.proofs.SoundBlock.{ReadFull, ended-same}
 use Rattle.format.proofs.BlocksAt.{through, first-full, only-tail}
 use Rattle.format.proofs.Sound.{sound-image}
-use Rattle.format.proofs.Opened.{fullFreqs-unread, fullBlock-is, entryBlock-is, tailFreqs-none, tailFreqs-unread, tailBlock-is}
+use Rattle.format.proofs.Opened.{walkBy, fullFreqs-unread, fullBlock-is, entryBlock-is, tailFreqs-none, tailFreqs-unread, tailBlock-is}
 use Rattle.format.proofs.Opened.{readFrom-zero, readFrom-suc, layout-is, readAll-ok, reading-is, soundness-is}
 
 -- ---- a block without its frequencies
@@ -72,7 +72,7 @@ module _ (option : IndexRecordOption) (alone : Bool) (tail : ℕ) where
   -- the same documents, to the end
   abbrev Same : Bool → ℕ → ℕ → List ℕ → List ℕ → List Block → Type 0
   Same wanted n least skips bs all =
-      (other : List Block) × (readFrom option wanted alone tail n least skips bs ≡ through other) × (docsOf other ≡ docsOf all)
+      (other : List Block) × (readFrom (walkBy option wanted alone tail) n least skips bs ≡ through other) × (docsOf other ≡ docsOf all)
 
   in-front : (n least : ℕ) (skips bs : List ℕ) (later : List Block) {b : Block} → ReadFull option true least skips bs b
       → Same false n (b .last + 1) (drop (entrySize option) skips) (drop (blockSize (readEntry option skips)) bs) later
@@ -83,7 +83,7 @@ module _ (option : IndexRecordOption) (alone : Bool) (tail : ℕ) where
       (unread 128 b ∷ q .0, rw (readFrom-suc, entry-unread option least skips bs r, rest), rw (q .2))
 
   unread-too : (n least : ℕ) (skips bs : List ℕ) {all : List Block}
-      → readFrom option true alone tail n least skips bs ≡ through all → Same false n least skips bs all
+      → readFrom (walkBy option true alone tail) n least skips bs ≡ through all → Same false n least skips bs all
   unfolding before nothing docsOf
   unread-too zero least skips bs h =
       let p = only-tail option true alone tail least skips bs h in
@@ -94,7 +94,7 @@ module _ (option : IndexRecordOption) (alone : Bool) (tail : ℕ) where
 
   -- .. whether they are requested or not
   any-wanted : (wanted : Bool) (n least : ℕ) (skips bs : List ℕ) {all : List Block}
-      → readFrom option true alone tail n least skips bs ≡ through all → Same wanted n least skips bs all
+      → readFrom (walkBy option true alone tail) n least skips bs ≡ through all → Same wanted n least skips bs all
   any-wanted true n least skips bs {all} h = (all, h, refl)
   any-wanted false n least skips bs h = unread-too n least skips bs h
 

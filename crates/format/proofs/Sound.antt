@@ -16,7 +16,7 @@ use Rattle.format.specs.declared.VInt.the-variants.{Number, Malformed}
 use Rattle.format.specs.Basics.{Outcome, ok, refused}
 use Rattle.format.specs.Vint.{skipLength}
 use Rattle.format.specs.Layout.{fullBlocks, tailLength, split, layout, skipBytes, postingBytes}
-use Rattle.format.specs.Reading.{nothing, readFrom, readAll, reading}
+use Rattle.format.specs.Reading.{nothing, walkOf, readFrom, readAll, reading}
 use Rattle.format.proofs.Choice.{choose-elim}
 use Rattle.format.proofs.Outcome.{refused≢ok, ok-same, ask-ok, Numbered, ask-numbered}
 use Rattle.format.proofs.Vints.{Read, read-used}
@@ -63,7 +63,7 @@ pub record Sound (t : Term) (bs : List ℕ) : Type 0 where
   pub laid : Layout
   pub found : layout t bs ≡ ok laid
   pub inside : laid .postings ≤ length bs
-  pub walk : readFrom (laid .option) (ltb 0 (t .requested)) (eqb (fullBlocks t) 0) (tailLength t) (fullBlocks t) 0
+  pub walk : readFrom (walkOf t laid) (fullBlocks t) 0
       (skipBytes laid bs) (postingBytes laid bs) ≡ through (reading t bs .blocks)
 
 laid-out : (t : Term) (bs : List ℕ) (o : Outcome Layout) → Numbered o → readAll t bs o .refusal ≡ 0 → (l : Layout) × (o ≡ ok l)

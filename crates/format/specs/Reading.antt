@@ -103,21 +103,32 @@ entryBlock option wanted least skips bs =
     let e : BlockInfo = readEntry option skips in
     ask (entryFits least (length bs) e) entryBroken λ _. fullBlock (and (hasFreq option) wanted) least e bs
 
--- n full blocks and a tail of `tail` documents
-unfoldable pub readFrom : IndexRecordOption → Bool → Bool → ℕ → ℕ → ℕ → List ℕ → List ℕ → Reading
+-- what a walk goes by: what the entries and blocks hold, whether frequencies are wanted, whether the tail stands alone, and how many
+-- documents it has
+pub record Walk : Type 0 where
+  pub option : IndexRecordOption
+  pub wanted : Bool
+  pub alone : Bool
+  pub tail : ℕ
+
+-- n full blocks and the tail
+unfoldable pub readFrom : Walk → ℕ → ℕ → List ℕ → List ℕ → Reading
 unfolding before nothing entryBlock tailBlock entrySize readEntry blockSize
-readFrom option wanted alone tail zero least skips bs = before (tailBlock option wanted alone tail least bs) λ _. nothing 0
-readFrom option wanted alone tail (suc n) least skips bs =
-    before (entryBlock option wanted least skips bs) λ _.
-    let e : BlockInfo = readEntry option skips in
-    readFrom option wanted alone tail n (e .«last_doc» + 1) (drop (entrySize option) skips) (drop (blockSize e) bs)
+readFrom w zero least skips bs = before (tailBlock (w .option) (w .wanted) (w .alone) (w .tail) least bs) λ _. nothing 0
+readFrom w (suc n) least skips bs =
+    before (entryBlock (w .option) (w .wanted) least skips bs) λ _.
+    let e : BlockInfo = readEntry (w .option) skips in
+    readFrom w n (e .«last_doc» + 1) (drop (entrySize (w .option)) skips) (drop (blockSize e) bs)
 
 -- frequencies are requested in modes 1 and 2
+abbrev pub walkOf : Term → Layout → Walk
+walkOf t l = record { option = l .option; wanted = ltb 0 (t .requested); alone = eqb (fullBlocks t) 0; tail = tailLength t }
+
 unfoldable pub readAll : Term → List ℕ → Outcome Layout → Reading
 unfolding nothing readFrom fullBlocks tailLength skipBytes postingBytes
 readAll t bs (refused n) = nothing n
 readAll t bs (ok l) =
-    readFrom (l .option) (ltb 0 (t .requested)) (eqb (fullBlocks t) 0) (tailLength t) (fullBlocks t) 0 (skipBytes l bs) (postingBytes l bs)
+    readFrom (walkOf t l) (fullBlocks t) 0 (skipBytes l bs) (postingBytes l bs)
 
 unfoldable pub reading : Term → List ℕ → Reading
 unfolding readAll layout

@@ -20,7 +20,7 @@ use Rattle.format.specs.Basics.{Outcome, ok, refused, andThen, ask}
 use Rattle.format.specs.Refusal.{entryBroken}
 use Rattle.format.specs.SkipEntry.{hasFreq, entrySize, blockSize, entryFits}
 use Rattle.format.specs.Layout.{layout, fullBlocks, tailLength, skipBytes, postingBytes}
-use Rattle.format.specs.Reading.{Block, Reading, nothing, before, fullBlock, entryBlock, readFrom, reading}
+use Rattle.format.specs.Reading.{Block, Reading, nothing, before, fullBlock, entryBlock, walkOf, readFrom, reading}
 use Rattle.format.proofs.Outcome.{refused≢ok, ok-same, Numbered}
 use Rattle.format.proofs.SoundBlock.{entryBlock-numbered, tailBlock-numbered}
 use Rattle.format.proofs.Opened.{entryBlock-is, readFrom-zero, readFrom-suc, readAll-ok, reading-is}
@@ -48,7 +48,7 @@ module _ (t : Term) (l : Layout) (bs : List ℕ) where
   -- what is read from block b on, its bytes beginning at place `at`
   unfoldable pub readingAt : ℕ → ℕ → ℕ → Reading
   readingAt b at least =
-      readFrom (l .option) (ltb 0 (t .requested)) (eqb (fullBlocks t) 0) (tailLength t) (fullBlocks t - b) least
+      readFrom (walkOf t l) (fullBlocks t - b) least
       (drop (entrySize (l .option) * b) (skipBytes l bs)) (drop at bs)
 
   module _ (b at least : ℕ) where

@@ -19,7 +19,7 @@ use Rattle.format.specs.Layout.{layout, fullBlocks, tailLength}
 use Rattle.format.specs.Reading.{Block, Reading, nothing, before, readFrom, readAll, reading, docsOf, freqsOf}
 use Rattle.format.specs.Counts.{countBelow, sum, totalIn, total}
 use Rattle.format.proofs.Choice.{choose-elim}
-use Rattle.format.proofs.Opened.{layout-is, readFrom-zero, readFrom-suc, readAll-ok, reading-is}
+use Rattle.format.proofs.Opened.{walkBy, layout-is, readFrom-zero, readFrom-suc, readAll-ok, reading-is}
 use Rattle.format.proofs.Outcome.{refused≢ok, ok-same, ask-ok, andThen-ok}
 use Rattle.format.proofs.Sound.{whole-count}
 use Rattle.format.proofs.SoundBlock.{SoundBlock, entryBlock-read, tailBlock-sound}
@@ -56,7 +56,7 @@ first-most (refused i) rest m n fit h k = omega arith
 
 module _ (option : IndexRecordOption) (wanted alone : Bool) (tail : ℕ) where
   read-most : (n least : ℕ) (skips bs : List ℕ)
-      → sum (freqsOf (readFrom option wanted alone tail n least skips bs .blocks)) ≤ (128 * n + tail) * 4294967295
+      → sum (freqsOf (readFrom (walkBy option wanted alone tail) n least skips bs .blocks)) ≤ (128 * n + tail) * 4294967295
   unfolding nothing freqsOf sum
   read-most zero least skips bs =
       rw readFrom-zero
