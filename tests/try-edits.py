@@ -26,12 +26,11 @@ WORKERS = os.cpu_count() or 1
 ERROR = re.compile(r"^\S*/crates/(\S+): error: (.*(?:\n  .*)*)", re.M)
 # What an error says that only follows from another one.
 FOLLOWS = re.compile(r"was not admitted|is not admitted|were not admitted|did not check|was rejected")
-# What an error says where a proof file doesn't fit the code: a name that isn't there, or one case of the code in place of another.
-MISFITS = re.compile(
-    r"can be named from here|not in scope|no such|unknown|expected .*token|parse|"
-    r"\.(?:Lts|Tie)\.(?:After|Left|Need)-\S+`\s+\((?:expected|found)\)|"
-    r"differ only where one has `\S*\.(?:Lts|Tie)\.(?:After|Left|Need)-"
-)
+# What an error says, in its first line, where a proof file names what isn't there; one that names no declaration is about the text.
+UNNAMED = re.compile(r"can be named from here|` is not in scope$|is already a name of this module")
+DECLARED = re.compile(r"`[^`]+`: ")
+# .. and where one case of the code stands in place of another.
+MISPLACED = re.compile(r"\.(?:Lts|Tie)\.(?:After|Left|Need)-\S+`\s+\((?:expected|found)\)|differ only where one has `\S*\.(?:Lts|Tie)\.(?:After|Left|Need)-")
 # What is said of a function that has no proof file, since its facts are found by search, where one isn't found.
 UNFOUND = re.compile(r"^(fn \S+): no proof: .*(`search` does not close .*)$", re.M)
 
@@ -39,6 +38,12 @@ UNFOUND = re.compile(r"^(fn \S+): no proof: .*(`search` does not close .*)$", re
 def check(copy, crate):
     run = subprocess.run(["rt", "dev", crate], cwd=copy, capture_output=True, text=True)
     return run.stdout + run.stderr
+
+
+def proved(said):
+    """The verdict on the crate itself, which comes last; crates below it may have been checked before."""
+    verdicts = re.findall(r"^logic=(\S+)", said, re.M)
+    return bool(verdicts) and verdicts[-1] == "proved"
 
 
 def changes(edit):
@@ -54,12 +59,19 @@ def changes(edit):
     return found
 
 
+def unfit(place, text):
+    """Whether an error says that a proof file, or the code itself, doesn't fit, and not that a fact fails."""
+    first = text.split("\n", 1)[0].rstrip()
+    in_proofs = place.split(":")[0].endswith(".antt")
+    return not in_proofs or not DECLARED.match(first) or bool(UNNAMED.search(first)) or bool(MISPLACED.search(text))
+
+
 def judged(said):
     """Whether a fact fails and the proofs fit the code, and what to say of it."""
-    if "logic=proved" in said:
+    if proved(said):
         return False, "NOT REFUSED"
     errors = [(place, text) for place, text in ERROR.findall(said) if not FOLLOWS.search(text)]
-    misfits = [error for error in errors if not error[0].split(":")[0].endswith(".antt") or MISFITS.search(error[1])]
+    misfits = [error for error in errors if unfit(*error)]
     unfound = UNFOUND.findall(said)
     if misfits or not (errors or unfound):
         place, text = (misfits or [("", said[-200:])])[0]
@@ -100,12 +112,12 @@ class Copies:
         rlib.mkdir(parents=True, exist_ok=True)
         (self.first / "target").mkdir(exist_ok=True)
         (self.first / "target/rlib").symlink_to(rlib)
-        proved = "logic=proved" in check(self.first, self.crate)
+        good = proved(check(self.first, self.crate))
         for i in range(1, WORKERS):
             shutil.copytree(self.first, self.first.parent / str(i), symlinks=True)
             self.free.put(self.first.parent / str(i))
         self.free.put(self.first)
-        return proved, f"{self.crate}: {'proved' if proved else 'NOT PROVED'} without an edit"
+        return good, f"{self.crate}: {'proved' if good else 'NOT PROVED'} without an edit"
 
     def try_one(self, edit):
         copy = self.free.get()
@@ -121,19 +133,20 @@ def main():
     edits = {crate: sorted(edit for folder in of for edit in folder.glob("*.edit")) for crate, of in folders.items()}
     # The crates with most edits first, so that no processor waits at the end.
     edits = dict(sorted(edits.items(), key=lambda item: -len(item[1])))
+    failed = done = 0
     with tempfile.TemporaryDirectory() as folder, concurrent.futures.ThreadPoolExecutor(WORKERS) as pool:
         copies = {crate: Copies(folder, crate) for crate in edits}
-        runs = list(pool.map(lambda crate: copies[crate].prepare(), edits))
-        if all(good for good, _ in runs):
-            jobs = [(crate, edit) for crate, of in edits.items() for edit in of]
-            runs += pool.map(lambda job: copies[job[0]].try_one(job[1]), jobs)
-        failed = 0
-        for good, line in runs:
+        for good, line in pool.map(lambda crate: copies[crate].prepare(), edits):
             print(line, flush=True)
             failed += not good
-    tried_edits = len(runs) - len(edits)
-    print(f"edits: {tried_edits} tried, {failed} not refused because a fact fails")
-    sys.exit(failed > 0 or tried_edits == 0)
+        # A refusal says nothing where the crate isn't proved without it.
+        jobs = [] if failed else [(crate, edit) for crate, of in edits.items() for edit in of]
+        for good, line in pool.map(lambda job: copies[job[0]].try_one(job[1]), jobs):
+            print(line, flush=True)
+            failed += not good
+            done += 1
+    print(f"edits: {done} tried, {failed} not refused because a fact fails")
+    sys.exit(failed > 0 or done == 0)
 
 
 main()
