@@ -32,14 +32,14 @@ use Rattle.serializer.specs.declared.PostingsSerializer.{PostingsSerializer}
 use Rattle.serializer.specs.declared.Step.{Step}
 use Rattle.serializer.specs.Calls.{accepted, answered, acceptedNumber, writtenNumbers, beginning, Settled, Took, Closed}
 use Rattle.serializer.specs.Whole.{fullBlocks, blocksFit}
-use Rattle.serializer.specs.Writer.{Areas, fresh, begun, taking, takeAll, listing}
+use Rattle.serializer.specs.Writer.{Areas, fresh, taking, takeAll, listing}
 use Rattle.serializer.proofs.Laws.BlockPlaces.{front-fits, blocks-room}
 use Rattle.serializer.proofs.Laws.WholeList.{whole-list-writes}
 use Rattle.serializer.proofs.SingleCalls.TakenDocuments.{TakenAll, taken-all}
 use Rattle.serializer.proofs.SingleCalls.WritesList.{single-calls-write}
 use Rattle.postings.specs.FirstPromise.{Acceptable}
 use Rattle.postings.proofs.FirstPromise.{bytes-answered, listed-acceptable, acceptable-listed, document-stays}
-use Rattle.postings.proofs.WriterNumbers.{begun-numbered, closing-numbered, zero-yes, zero-bytes, bytes-numbers}
+use Rattle.postings.proofs.WriterNumbers.{begin-numbered, closing-numbered, zero-yes, zero-bytes, bytes-numbers}
 use Rattle.postings.specs.WriterCalls.{areasOf, Handed, none, next, TermWritten, taken, allYes, AllAccepted}
 
 -- ---- the calls leave what those of the documents taken leave
@@ -244,8 +244,8 @@ module _ (mode : ℕ) (recording : Bool) (ds fs : List ℕ) (announced : ℕ) (s
   begins-yes : acceptedNumber (t .begun .answer) ≡ 0 → t .begun .answer ≡ Yes
   unfolding beginning
   begins-yes e =
-      let is : t .begun .answer ≡ accepted (begun mode recording) = ap (λ s. s .answer) (t .begins) in
-      is ∙ zero-yes (begun mode recording) (begun-numbered mode recording) (ap acceptedNumber (sym is) ∙ e)
+      let is : t .begun .answer ≡ accepted (begin mode recording) = ap (λ s. s .answer) (t .begins) in
+      is ∙ zero-yes (begin mode recording) (begin-numbered mode recording) (ap acceptedNumber (sym is) ∙ e)
 
   closing-bytes : {n : ℕ} → writtenNumbers (r .answer) ≡ 0 ∷ n ∷ [] → r .answer ≡ Bytes n
   closing-bytes e =
@@ -253,11 +253,11 @@ module _ (mode : ℕ) (recording : Bool) (ds fs : List ℕ) (announced : ℕ) (s
       ∙ zero-bytes length _ (closing-numbered (left .state) announced (left .skips) (left .postings) output) (ap writtenNumbers (sym (t .closed .answer)) ∙ e)
 
   begins-known : t .begun .answer ≡ Yes → mode ≤ 1
-  unfolding beginning begun
-  begins-known granted = leb-true mode 1 (ask-ok _ _ _ (accepted-yes (begun mode recording) .0 (sym (ap (λ s. s .answer) (t .begins)) ∙ granted) .1) .0)
+  unfolding beginning begin
+  begins-known granted = leb-true mode 1 (ask-ok _ _ _ (accepted-yes (begin mode recording) .0 (sym (ap (λ s. s .answer) (t .begins)) ∙ granted) .1) .0)
 
   known-begins : mode ≤ 1 → t .begun .answer ≡ Yes
-  unfolding beginning begun ask accepted
+  unfolding beginning begin ask accepted
   known-begins known = ap (λ s. s .answer) (t .begins) ∙ rw (le-leb mode 1 known)
 
   begun-fresh : t .begun .state ≡ fresh mode recording

@@ -20,7 +20,7 @@ use Rattle.serializer.specs.declared.Accepted.the-variants.{Yes, Refused as No}
 use Rattle.serializer.specs.declared.PostingsSerializer.{PostingsSerializer}
 use Rattle.serializer.specs.declared.Written.{Written}
 use Rattle.serializer.specs.declared.Written.the-variants.{Bytes, Refused}
-use Rattle.serializer.specs.Writer.{inBounds, imageOf, begun, closing, listing}
+use Rattle.serializer.specs.Writer.{inBounds, imageOf, closing, listing}
 use Rattle.serializer.specs.Calls.{accepted, answered, acceptedNumber, writtenNumbers}
 
 -- ---- no refusal carries the number 0
@@ -43,7 +43,7 @@ takeDocs-numbered option least (d ∷ ds) (f ∷ fs) =
     andThen-numbered (takeDoc option least d f) (λ next. takeDocs option next ds fs) (takeDoc-numbered option least d f)
     (λ next. takeDocs-numbered option next ds fs)
 
-begin-numbered : (mode : ℕ) (recording : Bool) → Numbered (begin mode recording)
+pub begin-numbered : (mode : ℕ) (recording : Bool) → Numbered (begin mode recording)
 unfolding begin
 begin-numbered mode recording = ask-numbered {A = IndexRecordOption} (leb mode 1) unknownMode (λ _. ok (keptIn mode recording)) (omega arith) tt
 
@@ -67,10 +67,6 @@ module _ (ds fs : List ℕ) where
       and (and (fitsAt 0 (blocks .skips) skips) (fitsAt 0 (blocks .postings) postings)) (fitsAt 0 image output) in
       andThen-numbered (written mode recording ds fs) (λ image. ask (fits image) noRoom λ _. ok image) (written-numbered mode recording)
       (λ image. ask-numbered {A = List ℕ} (fits image) noRoom (λ _. ok image) (omega arith) tt)
-
-pub begun-numbered : (mode : ℕ) (recording : Bool) → Numbered (begun mode recording)
-unfolding begun
-begun-numbered mode recording = ask-numbered {A = ℕ} (leb mode 1) unknownMode (λ _. ok 0) (omega arith) tt
 
 pub closing-numbered : (s : PostingsSerializer) (announced : ℕ) (skips postings output : List ℕ) → Numbered (closing s announced skips postings output)
 unfolding closing

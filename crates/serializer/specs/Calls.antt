@@ -8,7 +8,7 @@ use lib.ListN.{length}
 use Rattle.format.specs.declared.IndexRecordOption.{IndexRecordOption}
 use Rattle.format.specs.Basics.{Outcome, ok, refused, putAt, orBefore}
 use Rattle.format.specs.Written.{blocksOf}
-use Rattle.format.specs.Accepted.{keptIn}
+use Rattle.format.specs.Accepted.{keptIn, begin}
 use Rattle.serializer.specs.declared.PostingsSerializer.{PostingsSerializer}
 use Rattle.serializer.specs.declared.Accepted.{Accepted}
 use Rattle.serializer.specs.declared.Accepted.the-variants.{Yes, Refused as No}
@@ -16,7 +16,7 @@ use Rattle.serializer.specs.declared.ClosedTerm.{ClosedTerm}
 use Rattle.serializer.specs.declared.Step.{Step}
 use Rattle.serializer.specs.declared.Written.{Written}
 use Rattle.serializer.specs.declared.Written.the-variants.{Bytes, Refused}
-use Rattle.serializer.specs.Writer.{Areas, fresh, begun, taking, closing, listing, announcing}
+use Rattle.serializer.specs.Writer.{Areas, fresh, taking, closing, listing, announcing}
 
 -- what an outcome answers: of a call that gives no bytes ..
 unfoldable pub accepted : {A : Type 0} → Outcome A → Accepted
@@ -38,10 +38,10 @@ unfoldable pub writtenNumbers : Written → List ℕ
 writtenNumbers (Bytes n) = 0 ∷ n ∷ []
 writtenNumbers (Refused k) = k ∷ 0 ∷ []
 
--- a term begins
+-- a term begins: question 1
 unfoldable pub beginning : ℕ → Bool → Step
-unfolding accepted begun fresh
-beginning mode recording = record { answer = accepted (begun mode recording); state = fresh mode recording }
+unfolding accepted begin fresh
+beginning mode recording = record { answer = accepted (begin mode recording); state = fresh mode recording }
 
 -- what a call that may write into the areas answers and leaves; a refusal leaves all as it was
 pub record Settled (o : Outcome Areas) (s : PostingsSerializer) (skips postings skips′ postings′ : List ℕ) (r : Step) : Type 0 where

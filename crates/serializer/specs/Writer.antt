@@ -7,7 +7,7 @@ use lib.ListN.{length, take, set, replicate}
 use lib.Dec.{eqb, leb, ltb}
 use Rattle.format.specs.declared.IndexRecordOption.{IndexRecordOption}
 use Rattle.format.specs.Basics.{Outcome, ok, refused, andThen, ask, choose, lastOf, putAt, fitsAt, orBefore, TERMINATED}
-use Rattle.format.specs.Refusal.{unknownMode, countMismatch, noRoom, stateBroken}
+use Rattle.format.specs.Refusal.{countMismatch, noRoom, stateBroken}
 use Rattle.format.specs.Values.{rising, countable}
 use Rattle.format.specs.SkipEntry.{hasFreq}
 use Rattle.format.specs.Written.{entryOf, blockOf, Parts, blocksOf, imageWith}
@@ -68,11 +68,6 @@ unfolding boundsHold
 inBounds s skips postings = boundsHold s (length skips) (length postings)
 
 -- ---- the calls
-
--- a term begins: question 1
-unfoldable pub begun : ℕ → Bool → Outcome ℕ
-unfolding ask
-begun mode recording = ask (leb mode 1) unknownMode λ _. ok 0
 
 -- the state and the areas after a call
 pub record Areas : Type 0 where

@@ -3,8 +3,8 @@
 use borrow.Author.Tests.{le-leb, lt-leb}
 use borrow.Author.Needs.{needs}
 use Rattle.format.specs.Basics.{ask}
+use Rattle.format.specs.Accepted.{begin}
 use Rattle.serializer.specs.Calls.{accepted, beginning}
-use Rattle.serializer.specs.Writer.{begun}
 use Rattle.serializer.proofs.new_term.Statement.{statement}
 use Rattle.serializer.proofs.new_term.Tie as tie
 
@@ -12,11 +12,11 @@ fresh-requires : tie.Need-fresh-requires
 fresh-requires c κs = search needs
 
 returns : tie.Need-returns
-unfolding beginning accepted begun ask
+unfolding beginning accepted begin ask
 returns c = rw (c .before .fresh .ensures, lt-leb _ _ (c .if1 .taken))
 
 returns-2 : tie.Need-returns-2
-unfolding beginning accepted begun ask
+unfolding beginning accepted begin ask
 returns-2 c = rw (c .before .fresh .ensures, le-leb _ _ (c .if1 .left))
 
 pub new-term-spec : {M : Type 1} → statement M
