@@ -28,9 +28,10 @@ use Rattle.serializer.specs.declared.ClosedTerm.{ClosedTerm}
 use Rattle.serializer.specs.declared.PostingsSerializer.{PostingsSerializer}
 use Rattle.serializer.specs.declared.Step.{Step}
 use Rattle.serializer.specs.declared.Written.{Written}
-use Rattle.serializer.specs.declared.Written.the-variants.{Bytes, Refused}
+use Rattle.serializer.specs.declared.Written.the-variants.{Bytes}
 use Rattle.serializer.specs.Writer.{Areas, listing, closing}
 use Rattle.serializer.specs.Calls.{accepted, answered, acceptedNumber, writtenNumbers, Settled, Closed, Listed}
+use Rattle.serializer.proofs.Laws.AnswerTells.{accepted-refused, answered-bytes, answered-refused}
 use Rattle.serializer.proofs.Laws.WholeList.{whole-list-writes}
 use Rattle.segment_postings.specs.Admission.{Meets, MeetsNone}
 use Rattle.segment_postings.proofs.Admission.AdmissionExact.{admission-admits, admission-refuses}
@@ -72,21 +73,6 @@ accepted-written mode recording ds fs known a =
     let p = all-taken (keptIn mode recording) 0 ds fs a in
     rw (le-leb mode 1 known, eq-eqb (length ds) (length fs) (a .as-many), p .1)
 
-pub bytes-answered : {A : Type 0} (bytes : A → ℕ) (o : Outcome A) {n : ℕ} → answered bytes o ≡ Bytes n → (a : A) × (o ≡ ok a) × (n ≡ bytes a)
-unfolding answered
-bytes-answered bytes (ok a) e = (a, refl, cc)
-bytes-answered bytes (refused m) e = absurd (let z : _≡_ {A = ℕ} 0 1 = cc in omega arith)
-
-refusal-answered : {A : Type 0} (bytes : A → ℕ) (o : Outcome A) {n : ℕ} → answered bytes o ≡ Refused n → o ≡ refused n
-unfolding answered
-refusal-answered bytes (ok a) e = absurd (let z : _≡_ {A = ℕ} 0 1 = cc in omega arith)
-refusal-answered bytes (refused m) e = cc
-
-pub not-accepted : {A : Type 0} (o : Outcome A) {n : ℕ} → accepted o ≡ No n → o ≡ refused n
-unfolding accepted
-not-accepted (ok a) e = absurd (let z : _≡_ {A = ℕ} 0 1 = cc in omega arith)
-not-accepted (refused m) e = cc
-
 module _ (mode : ℕ) (recording : Bool) (ds fs skips postings output : List ℕ) (small : AllBelow (2 ^ 32) fs) where
   pub listed-acceptable : {bytes : List ℕ} → listing mode recording ds fs skips postings output ≡ ok bytes
       → Acceptable mode recording ds fs skips postings output
@@ -109,7 +95,7 @@ module _ (mode : ℕ) (recording : Bool) (ds fs skips postings output : List ℕ
       let o : Outcome (List ℕ) = listing mode recording ds fs skips postings output in
       let bytes : (n : ℕ) → writtenNumbers r ≡ 0 ∷ n ∷ [] → answered length o ≡ Bytes n =
       λ n e. zero-bytes length o (listing-numbered ds fs mode recording skips postings output) (ap writtenNumbers (sym (l .answer)) ∙ e) in (
-        λ b. listed-acceptable (bytes-answered length o (bytes (b .0) (b .1)) .1),
+        λ b. listed-acceptable (answered-bytes length o refl (bytes (b .0) (b .1)) .1),
         λ a. (length (image (keptIn mode recording) ds fs), bytes-numbers (l .answer ∙ rw (acceptable-listed a))),
       )
 
@@ -129,7 +115,7 @@ pub document-stays : {o : Outcome Areas} {s : PostingsSerializer} {skips posting
     → (r .state ≡ s) × (skips′ ≡ skips) × (postings′ ≡ postings)
 unfolding orBefore
 document-stays {o} h e =
-    let no = not-accepted o (sym (h .answer) ∙ e) in
+    let no = accepted-refused o (h .answer) e in
     (rw no at (h .state), rw no at (h .skips-after), rw no at (h .postings-after))
 
 -- a document, by `write_doc`: any answer but 0
@@ -143,7 +129,7 @@ pub refused-closing : (s : PostingsSerializer) (announced : ℕ) (skips postings
     → Closed s announced skips postings output output′ r → 0 < n → writtenNumbers (r .answer) ≡ n ∷ 0 ∷ [] → (r .state ≡ s) × (output′ ≡ output)
 unfolding orBefore
 refused-closing s announced skips postings output {r = r} h above e =
-    let no = refusal-answered length (closing s announced skips postings output) (sym (h .answer) ∙ above-refused (r .answer) above e) in
+    let no = answered-refused length (closing s announced skips postings output) (h .answer) (above-refused (r .answer) above e) in
     (rw no at (h .state), rw no at (h .output-after))
 
 -- a whole list, by `write_list`
@@ -152,5 +138,5 @@ pub refused-list : (mode : ℕ) (recording : Bool) (ds fs skips postings output 
     → (skips′ ≡ skips) × (postings′ ≡ postings) × (output′ ≡ output)
 unfolding orBefore
 refused-list mode recording ds fs skips postings output {r = r} h above e =
-    let no = refusal-answered length (listing mode recording ds fs skips postings output) (sym (h .answer) ∙ above-refused r above e) in
+    let no = answered-refused length (listing mode recording ds fs skips postings output) (h .answer) (above-refused r above e) in
     (rw no at (h .skips-after), rw no at (h .postings-after), rw no at (h .output-after))

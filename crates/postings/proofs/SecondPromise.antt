@@ -6,7 +6,7 @@
 -- Assumes nothing.
 use mathlib.Core.Bool.{Bool, _&&_ as and}
 use mathlib.Core.List.{List, [], _∷_, map}
-use mathlib.Core.Path.{_≡_, sym, ap, _∙_}
+use mathlib.Core.Path.{_≡_, refl, ap, _∙_}
 use Prim.Native.Nat.{ℕ, _+_, _≤_, _<_, _^_}
 use borrow.Author.Tests.{lt-leb}
 use lib.Dec.{ltb}
@@ -30,6 +30,7 @@ use Rattle.format.proofs.Totals.{total-below}
 use Rattle.serializer.specs.declared.Written.the-variants.{Bytes}
 use Rattle.serializer.specs.Writer.{listing}
 use Rattle.serializer.specs.Calls.{Listed}
+use Rattle.serializer.proofs.Laws.AnswerTells.{answered-bytes}
 use Rattle.serializer.proofs.Laws.WholeList.{whole-list-writes, whole-list-sound, whole-list-reads-back}
 use Rattle.segment_postings.specs.declared.Answer.{Answer}
 use Rattle.segment_postings.specs.declared.SegmentPostings.{SegmentPostings}
@@ -41,7 +42,6 @@ use Rattle.segment_postings.specs.Called.{shown, valueNumbers}
 use Rattle.segment_postings.proofs.Laws.ReadQuestions.{whole-is}
 use Rattle.segment_postings.proofs.Simulation.RankCounts.{rank-ids, rank-refused}
 use Rattle.postings.specs.MixedCalls.{MadeCall, callsOf, Opened, Called}
-use Rattle.postings.proofs.FirstPromise.{bytes-answered}
 use Rattle.postings.proofs.ThirdPromise.{third-promise}
 use Rattle.postings.proofs.ValueNumbers.{told, told-refused}
 
@@ -51,7 +51,7 @@ module _ (mode : ℕ) (recording : Bool) (ds fs skips postings output : List ℕ
   written-image : (listing mode recording ds fs skips postings output ≡ ok (take n output′)) × (take n output′ ≡ image (keptIn mode recording) ds fs)
   unfolding orBefore
   written-image =
-      let p = bytes-answered length (listing mode recording ds fs skips postings output) (sym (listed .answer)) in
+      let p = answered-bytes length (listing mode recording ds fs skips postings output) (listed .answer) refl in
       let room = whole-list-writes mode recording ds fs skips postings output .0 (p .1) in
       let out = rw (p .1) at (listed .output-after) in
       let same : take n output′ ≡ p .0 =

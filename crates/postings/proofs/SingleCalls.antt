@@ -22,7 +22,7 @@ use Rattle.format.specs.SkipEntry.{hasFreq}
 use Rattle.format.specs.Written.{image}
 use Rattle.format.proofs.Area.{take-putAt-front}
 use Rattle.format.proofs.Accepted.{takeDoc-ok, written-ok}
-use Rattle.format.proofs.Outcome.{refused≢ok, ok-same, ask-ok, andThen-ok}
+use Rattle.format.proofs.Outcome.{ok-same, ask-ok, andThen-ok}
 use Rattle.format.proofs.ReadsBack.{reads-back, written-sound}
 use Rattle.serializer.specs.declared.Accepted.{Accepted}
 use Rattle.serializer.specs.declared.Accepted.the-variants.{Yes, Refused}
@@ -33,12 +33,13 @@ use Rattle.serializer.specs.declared.Step.{Step}
 use Rattle.serializer.specs.Calls.{accepted, answered, acceptedNumber, writtenNumbers, beginning, Settled, Took, Closed}
 use Rattle.serializer.specs.Whole.{fullBlocks, blocksFit}
 use Rattle.serializer.specs.Writer.{Areas, fresh, taking, takeAll, listing}
+use Rattle.serializer.proofs.Laws.AnswerTells.{accepted-yes, answered-bytes}
 use Rattle.serializer.proofs.Laws.BlockPlaces.{front-fits, blocks-room}
 use Rattle.serializer.proofs.Laws.WholeList.{whole-list-writes}
 use Rattle.serializer.proofs.SingleCalls.TakenDocuments.{TakenAll, taken-all}
 use Rattle.serializer.proofs.SingleCalls.WritesList.{single-calls-write}
 use Rattle.postings.specs.FirstPromise.{Acceptable}
-use Rattle.postings.proofs.FirstPromise.{bytes-answered, listed-acceptable, acceptable-listed, document-stays}
+use Rattle.postings.proofs.FirstPromise.{listed-acceptable, acceptable-listed, document-stays}
 use Rattle.postings.proofs.WriterNumbers.{begin-numbered, closing-numbered, zero-yes, zero-bytes, bytes-numbers}
 use Rattle.postings.specs.WriterCalls.{areasOf, Handed, none, next, TermWritten, taken, allYes, AllAccepted}
 
@@ -98,12 +99,6 @@ front-room bs area e = leb-true _ _ (sym (front-fits bs area) ∙ e)
 room-front : (bs area : List ℕ) → length bs ≤ length area → fitsAt 0 bs area ≡ true
 room-front bs area h = front-fits bs area ∙ le-leb _ _ h
 
--- an answer is yes exactly where nothing is refused
-pub accepted-yes : {A : Type 0} (o : Outcome A) → (accepted o ≡ Yes) ↔ ((a : A) × (o ≡ ok a))
-unfolding accepted
-accepted-yes (ok a) = (λ _. (a, refl), λ _. refl)
-accepted-yes (refused n) = (λ e. let z : _≡_ {A = ℕ} 0 1 = cc in absurd (omega arith), λ p. absurd (refused≢ok (p .1)))
-
 -- ---- a term's documents
 
 -- a term that is begun, documents handed in, and what is known behind them
@@ -150,7 +145,7 @@ module _ (mode : ℕ) (recording : Bool) (skips postings : List ℕ) (known : mo
     document-taken least e =
         let answer = rw e at document-answered in (
           λ yes.
-              let p = accepted-yes _ .0 (sym answer ∙ yes) in
+              let p = accepted-yes _ answer yes in
               let q = andThen-ok (takeDoc option least d f) (λ next. ask (blocksFit option (ids ++ (d ∷ [])) (freqs ++ (f ∷ [])) skips postings) noRoom λ _. ok next) (p .1) in
               (q .1 ∙ ap ok (takeDoc-ok option least d f (q .1) .next-is), ask-ok _ _ _ (q .2) .0),
           λ p. answer ∙ rw (p .0, p .1),
@@ -168,7 +163,7 @@ module _ (mode : ℕ) (recording : Bool) (skips postings : List ℕ) (known : mo
       -- the count announced is theirs, and there is room
       closes : (announced ≡ length ids) × (length (image option ids freqs) ≤ length output) × (n ≡ length (image option ids freqs))
       closes =
-          let p = bytes-answered length _ (sym closing-answered ∙ e) in
+          let p = answered-bytes length _ closing-answered e in
           let q = ask-ok (eqb (length ids) announced) countMismatch _ (p .1) in
           let room = ask-ok (fitsAt 0 (image option ids freqs) output) noRoom (λ _. ok (image option ids freqs)) (q .1) in
           (sym (eqb-true (length ids) announced (q .0)), front-room (image option ids freqs) output (room .0), p .2 ∙ ap length (sym (ok-same (room .1))))
@@ -254,7 +249,7 @@ module _ (mode : ℕ) (recording : Bool) (ds fs : List ℕ) (announced : ℕ) (s
 
   begins-known : t .begun .answer ≡ Yes → mode ≤ 1
   unfolding beginning begin
-  begins-known granted = leb-true mode 1 (ask-ok _ _ _ (accepted-yes (begin mode recording) .0 (sym (ap (λ s. s .answer) (t .begins)) ∙ granted) .1) .0)
+  begins-known granted = leb-true mode 1 (ask-ok _ _ _ (accepted-yes (begin mode recording) (ap (λ s. s .answer) (t .begins)) granted .1) .0)
 
   known-begins : mode ≤ 1 → t .begun .answer ≡ Yes
   unfolding beginning begin ask accepted

@@ -1,3 +1,4 @@
+pub mod AnswerTells
 pub mod BlockPlaces
 pub mod EnoughRoom
 pub mod ImagePieces

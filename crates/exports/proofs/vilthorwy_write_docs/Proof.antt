@@ -1,9 +1,7 @@
 -- `exports::vilthorwy_write_docs` meets its contract: a refusal comes before the first call.
 -- Assumes nothing.
 use borrow.Author.Needs.{needs}
-use mathlib.Core.Path.{sym, _∙_}
-use Rattle.postings.proofs.FirstPromise.{not-accepted}
-use Rattle.postings.proofs.SingleCalls.{accepted-yes}
+use Rattle.serializer.proofs.Laws.AnswerTells.{accepted-yes, accepted-refused}
 use Rattle.exports.proofs.EachTaken.{coded-refused}
 use Rattle.exports.proofs.vilthorwy_write_docs.Statement.{statement}
 use Rattle.exports.proofs.vilthorwy_write_docs.Tie as tie
@@ -30,7 +28,7 @@ returns : tie.Need-returns
 returns c =
     let asked = c .before .before .before .before in
     let a = asked .before .before .before .before .before .before .before .before .before .args in
-    let no = not-accepted _ (sym (asked .ask-list .ensures) ∙ c .before .before .asked .given .1) in
+    let no = accepted-refused _ (asked .ask-list .ensures) (c .before .before .asked .given .1) in
     coded-refused (a .mode) (a .recording) _ _ _ _ _ no (c .mark .ensures)
 
 enum-told : tie.Need-enum-told
@@ -39,7 +37,7 @@ enum-told c = search needs
 write-term-requires : tie.Need-write-term-requires
 write-term-requires c κs =
     let told = c .before .before .before in
-    accepted-yes _ .0 (sym (told .before .before .ask-list .ensures) ∙ told .enum-told .given .1)
+    accepted-yes _ (told .before .before .ask-list .ensures) (told .enum-told .given .1)
 
 code-requires : tie.Need-code-requires
 code-requires c κs = search needs

@@ -6,7 +6,6 @@ use mathlib.Core.Path.{_≡_, refl, sym, _∙_}
 use mathlib.Core.Bool.{Bool, true, false}
 use mathlib.Core.List.{List, [], _∷_}
 use Prim.Native.Nat.{ℕ, suc, _+_, _-_, _≤_, _<_}
-use native.Mathlib.Nat.{not-suc-le-zero}
 use native.Mathlib.Omega.{arith}
 use lib.Dec.{leb, ltb}
 use lib.ListN.{length, getD, take, set, drop-of-length-le}
@@ -19,7 +18,6 @@ use Rattle.format.specs.Accepted.{takeDoc}
 use Rattle.format.proofs.Outcome.{ask-ok, andThen-ok}
 use Rattle.format.proofs.Values.{rising-append, rising-last}
 use Rattle.serializer.specs.declared.PostingsSerializer.{PostingsSerializer}
-use Rattle.serializer.specs.declared.Accepted.{Accepted}
 use Rattle.serializer.specs.declared.Accepted.the-variants.{Yes, Refused}
 use Rattle.serializer.specs.declared.block.Placed.{Placed}
 use Rattle.serializer.specs.declared.block.Placed.the-variants.{At, NoRoom}
@@ -30,19 +28,7 @@ use Rattle.format.specs.Written.{entryOf, blockOf}
 use Rattle.serializer.specs.Writer.{Areas, boundsHold, inBounds, optionOf, firstLeast, leastAfter, waitingDocs, stored, finished, taking, emptied}
 use Rattle.serializer.proofs.block.BlockPlaced.{last-at}
 use Rattle.serializer.proofs.bounds.Question16.{few, waiting-rises}
-
--- ---- what an answer says of its outcome
-
-module _ {A : Type 0} where
-  pub accepted-yes : (o : Outcome A) {r : Accepted} → r ≡ accepted o → r ≡ Yes → (a : A) × (o ≡ ok a)
-  unfolding accepted
-  accepted-yes (ok a) e told = (a, refl)
-  accepted-yes (refused k) e told = absurd (let z : _≡_ {A = ℕ} 0 1 = cc in omega arith)
-
-  pub accepted-refused : (o : Outcome A) {r : Accepted} {n : ℕ} → r ≡ accepted o → r ≡ Refused n → o ≡ refused n
-  unfolding accepted
-  accepted-refused (ok a) e told = absurd (let z : _≡_ {A = ℕ} 0 1 = cc in omega arith)
-  accepted-refused (refused k) e told = cc
+use Rattle.serializer.proofs.list.Blocks.{leastAfter-last}
 
 -- ---- the least id that may come
 
@@ -50,15 +36,10 @@ pub least-none : (least : ℕ) (ds : List ℕ) {w : ℕ} → w ≡ 0 → leastAf
 unfolding leastAfter
 least-none least ds e = rw e
 
-least-last : (least : ℕ) (ds : List ℕ) → 0 < length ds → leastAfter least ds ≡ lastOf 0 ds + 1
-unfolding leastAfter lastOf
-least-last least [] h = absurd (not-suc-le-zero h)
-least-last least (d ∷ ds) h = refl
-
 pub least-some : (least : ℕ) (ds : List ℕ) (w : ℕ) → 0 < w → w ≤ length ds → leastAfter least (take w ds) ≡ getD ds (w - 1) 0 + 1
 least-some least ds w pos h =
     let long = length-take-le w ds h in
-    least-last least (take w ds) (omega arith) ∙ rw (last-at (take w ds), long, getD-take w ds (w - 1) 0 (omega arith))
+    leastAfter-last least (take w ds) (omega arith) ∙ rw (last-at (take w ds), long, getD-take w ds (w - 1) 0 (omega arith))
 
 -- ---- what is asked
 
@@ -135,7 +116,7 @@ module _ (s : PostingsSerializer) (d : ℕ) (a : Admitted s d) (full : 127 ≤ s
       let ds = take (s .waiting) (s .docs) in
       let h : 0 < length ds = omega (arith, long) in
       let none : length (s .docs) ≤ suc (s .waiting) = omega arith in
-      let above : lastOf 0 ds + 1 ≤ d = rw (← least-last (firstLeast s) ds h) (a .above) in
+      let above : lastOf 0 ds + 1 ≤ d = rw (← leastAfter-last (firstLeast s) ds h) (a .above) in
       rw (
         set-split (s .docs) (s .waiting) d (omega (arith, a .waits)),
         drop-of-length-le (s .docs) none,

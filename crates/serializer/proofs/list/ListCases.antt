@@ -15,7 +15,7 @@ use Rattle.format.specs.Written.{image, imageFrom}
 use Rattle.format.specs.Accepted.{keptIn, begin, takeDocs, written}
 use Rattle.format.proofs.Area.{length-putAt, take-putAt-front}
 use Rattle.format.proofs.Outcome.{ok-same, ask-ok, andThen-ok}
-use Rattle.serializer.specs.declared.Accepted.the-variants.{Yes, Refused as No}
+use Rattle.serializer.specs.declared.Accepted.the-variants.{Refused as No}
 use Rattle.serializer.specs.declared.list.Sizes.{Sizes}
 use Rattle.serializer.specs.declared.Written.{Written}
 use Rattle.serializer.specs.declared.Written.the-variants.{Bytes, Refused}
@@ -63,17 +63,6 @@ listing-is : (mode : ℕ) (recording : Bool) (ds fs skips postings output : List
     ok image)
 unfolding listing blocksFit fullBlocks
 listing-is mode recording ds fs skips postings output = refl
-
--- ---- what an outcome answers
-
-module _ {A : Type 0} {o : Outcome A} where
-  pub answers-no : {n : ℕ} → o ≡ refused n → No n ≡ accepted o
-  unfolding accepted
-  answers-no e = rw e
-
-  pub answers-yes : {a : A} → o ≡ ok a → Yes ≡ accepted o
-  unfolding accepted
-  answers-yes e = rw e
 
 -- ---- the questions of the documents
 

@@ -3,7 +3,8 @@
 use denote.Ref.{now}
 use lib.ListN.{length}
 use borrow.Author.Needs.{needs}
-use Rattle.serializer.proofs.document.TakeCases.{accepted-yes, accepted-refused, asking-yes, taking-refused, settled-refused}
+use Rattle.serializer.proofs.Laws.AnswerTells.{accepted-yes, accepted-refused}
+use Rattle.serializer.proofs.document.TakeCases.{asking-yes, taking-refused, settled-refused}
 use Rattle.serializer.proofs.write_doc.Statement.{statement}
 use Rattle.serializer.proofs.write_doc.Tie as tie
 

@@ -14,21 +14,20 @@ use denote.Ref.{now}
 use lib.ListN.{length, getD, take}
 use lib.Seq.{slice, slice-cons, slice-empty, length-take-le}
 use borrow.Author.Needs.{needs}
-use borrow.Author.Tests.{not-true, not-false, leb-true}
+use borrow.Author.Tests.{not-true, not-false}
 use Rattle.format.specs.declared.Layout.{Layout}
 use Rattle.format.specs.declared.Term.{Term}
-use Rattle.format.specs.Basics.{ok, refused, TERMINATED}
+use Rattle.format.specs.Basics.{ok, refused}
 use Rattle.format.specs.SkipEntry.{blockSize}
 use Rattle.format.specs.Layout.{layout, fullBlocks, skipBytes}
 use Rattle.format.specs.Reading.{Reading, reading}
 use Rattle.format.specs.Values.{ids, countable}
-use Rattle.format.proofs.Opened.{layout-is}
-use Rattle.format.proofs.Outcome.{ask-ok}
 use Rattle.segment_postings.specs.declared.find.Found.{Found}
 use Rattle.segment_postings.specs.declared.load.Taken.{Taken}
 use Rattle.segment_postings.specs.Private.{FindsFrom, FoundThere}
 use Rattle.segment_postings.specs.Landing.{findBlock}
 use Rattle.segment_postings.specs.Taken.{endsOn, takenFreqs, endsBefore, askedDocs, askedFreqs, ValuesTaken}
+use Rattle.segment_postings.proofs.Laws.BelowMark.{count-most}
 use Rattle.segment_postings.proofs.Laws.LandingParts.{searched-to, searched-refused}
 use Rattle.segment_postings.proofs.layout.SplitParts.{laid-out}
 use Rattle.segment_postings.proofs.find.FoundBlock.{found-there}
@@ -59,10 +58,6 @@ Inv-blocks2 image term layout block₀ at₀ least₀ block at least =
 
 abbrev μ-blocks2 : tie.MeasureT-blocks2
 μ-blocks2 image term layout block₀ at₀ least₀ block at least = fullBlocks term - block
-
--- an image that is laid out has few documents
-laid-count : (t : Term) (bs : List ℕ) {l : Layout} → layout t bs ≡ ok l → t .count ≤ TERMINATED
-laid-count t bs e = leb-true _ _ (ask-ok _ _ _ (ask-ok _ _ _ (sym (layout-is t bs) ∙ e) .1) .0)
 
 -- a turn: where the search starts from
 starts : (c : tie.At-blocks2 Inv-ids μ-ids Inv-counts μ-counts Inv-blocks2 μ-blocks2)
@@ -100,7 +95,7 @@ module _ (c : tie.After-known-told Inv-ids μ-ids Inv-counts μ-counts Inv-block
 
   few : b < 2 ^ 25
   unfolding fullBlocks
-  few = omega (arith, laid-count t bs (head .before .before .pre))
+  few = omega (arith, count-most t bs (head .before .before .pre))
 
 -- .. with its values
 module _ (c : tie.After-take-values Inv-ids μ-ids Inv-counts μ-counts Inv-blocks2 μ-blocks2) where

@@ -8,7 +8,8 @@ use Rattle.format.specs.Accepted.{takeDoc}
 use Rattle.serializer.specs.Calls.{accepted}
 use Rattle.serializer.specs.Writer.{boundsHold, optionOf, firstLeast, leastAfter, waitingDocs}
 use Rattle.serializer.proofs.bounds.Question16.{few}
-use Rattle.serializer.proofs.document.TakeCases.{accepted-yes, accepted-refused, asking-broken, asking-refused, asking-full, asking-ok}
+use Rattle.serializer.proofs.Laws.AnswerTells.{accepted-yes, accepted-refused}
+use Rattle.serializer.proofs.document.TakeCases.{asking-broken, asking-refused, asking-full, asking-ok}
 use Rattle.serializer.proofs.document.may_take.Statement.{statement}
 use Rattle.serializer.proofs.document.may_take.Tie as tie
 

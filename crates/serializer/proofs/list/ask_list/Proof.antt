@@ -10,8 +10,8 @@ use lib.ListN.{length}
 use Rattle.format.specs.Accepted.{keptIn, written}
 use Rattle.format.specs.Basics.{Outcome, ok}
 use Rattle.serializer.specs.Whole.{listFits}
-use Rattle.serializer.proofs.document.TakeCases.{accepted-yes, accepted-refused}
-use Rattle.serializer.proofs.list.ListCases.{answers-no, answers-yes, checked, announcing-refused, miscounted, no-room, with-room}
+use Rattle.serializer.proofs.Laws.AnswerTells.{accepted-yes, accepted-refused, answers-yes, answers-no}
+use Rattle.serializer.proofs.list.ListCases.{checked, announcing-refused, miscounted, no-room, with-room}
 use Rattle.serializer.proofs.list.ask_list.Statement.{statement}
 use Rattle.serializer.proofs.list.ask_list.Tie as tie
 

@@ -7,7 +7,7 @@ use native.Mathlib.Omega.{arith}
 use borrow.Author.Needs.{needs}
 use lib.ListN.{length}
 use Rattle.serializer.specs.Calls.{accepted}
-use Rattle.serializer.proofs.document.TakeCases.{accepted-yes, accepted-refused}
+use Rattle.serializer.proofs.Laws.AnswerTells.{accepted-yes, accepted-refused}
 use Rattle.serializer.proofs.list.CheckLoop.{Asked, asked-end, asked-next, asked-refused}
 use Rattle.serializer.proofs.list.check_docs.Statement.{statement}
 use Rattle.serializer.proofs.list.check_docs.Tie as tie

@@ -7,7 +7,7 @@ use borrow.Author.Needs.{needs}
 use denote.Ref.{now}
 use Rattle.format.specs.Accepted.{written}
 use Rattle.format.specs.Basics.{Outcome, ok}
-use Rattle.serializer.proofs.document.TakeCases.{accepted-yes, accepted-refused}
+use Rattle.serializer.proofs.Laws.AnswerTells.{accepted-yes, accepted-refused}
 use Rattle.serializer.proofs.list.ListCases.{checked, left-refused, listing-refused, listing-room, listed-put}
 use Rattle.serializer.proofs.list.write_list.Statement.{statement}
 use Rattle.serializer.proofs.list.write_list.Tie as tie
