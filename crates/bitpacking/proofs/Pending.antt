@@ -11,9 +11,10 @@ use native.Mathlib.Nat.{mod-lt, mul-assoc, add-comm, mul-add-div-right, add-mul,
 use native.Mathlib.Omega.{arith}
 use lib.Dec.{lit<}
 use lib.ListN.{getD}
-use lib.Pow.{pow-pos, pow-add, pow-mono, mod-pow-add, shr-lt, shr-shr, field, mod-mod-pow}
+use lib.Pow.{pow-pos, pow-add, pow-mono, mod-pow-add, shr-lt, shr-shr}
 use Rattle.format.specs.Bitpacking.{laneOf, packedAt}
 use Rattle.format.proofs.Lanes.{laneOf-digit}
+use Rattle.bitpacking.proofs.Shifts.{lowest, upper}
 use Rattle.bitpacking.specs.declared.Lanes.{Lanes}
 use Rattle.bitpacking.specs.Packed.{pending, wordsTaken, WordIs, WordsAre, LanesHold, LanesAt}
 
@@ -28,13 +29,7 @@ digit-above x n w d bits low e digit =
 
 -- b bits of x from bit `at` on, read of its lower n
 lower-bits : (x n at b : ℕ) → b + at ≤ n → x % 2 ^ n / 2 ^ at % 2 ^ b ≡ x / 2 ^ at % 2 ^ b
-lower-bits x n at b h =
-    ap (λ (k : ℕ). x % 2 ^ k / 2 ^ at % 2 ^ b) split
-    ∙ ap (λ (y : ℕ). y % 2 ^ b) (field x (n - (b + at) + b) at)
-    ∙ mod-mod-pow (x / 2 ^ at) (n - (b + at)) b
-  where
-    split : n ≡ n - (b + at) + b + at
-    split = omega arith
+lower-bits x n at b h = ap (λ (y : ℕ). y % 2 ^ b) (upper x n at (omega arith)) ∙ lowest (x / 2 ^ at) (n - at) b (omega arith)
 
 packed-byte : (w : ℕ) (vs : List ℕ) (p : ℕ) → packedAt w vs p ≡ laneOf 32 w vs (p % 16 / 4) / 2 ^ (32 * (p / 16) + 8 * (p % 4)) % 256
 unfolding packedAt

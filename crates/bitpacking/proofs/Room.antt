@@ -2,7 +2,7 @@
 -- Assumes nothing.
 use mathlib.Core.Path.{_≡_, refl, sym, ap, _∙_}
 use mathlib.Core.Bool.{Bool, true, false, _&&_ as and}
-use mathlib.Core.List.{List, _++_}
+use mathlib.Core.List.{List, _++_, map}
 use Prim.Native.Nat.{ℕ, _*_, _≤_, _<_}
 use borrow.Author.Tests.{leb-true, lt-leb, le-leb}
 use lib.ListN.{length, drop}
@@ -11,7 +11,7 @@ use Rattle.format.specs.Basics.{choose, putAt}
 use Rattle.format.specs.Bitpacking.{pack, packedAt, unpack}
 use Rattle.format.proofs.Area.{putAt-front}
 use Rattle.format.proofs.Bitpacking.{pack-length}
-use Rattle.bitpacking.specs.Packed.{roomFor, filled, Unpacked, Packed}
+use Rattle.bitpacking.specs.Packed.{roomFor, withMore, filled, Unpacked, Packed}
 
 pub too-wide : (w n : ℕ) → 32 < w → roomFor w n ≡ false
 unfolding roomFor
@@ -30,13 +30,15 @@ pub room-there : (w n : ℕ) → roomFor w n ≡ true → (w ≤ 32) × (16 * w 
 unfolding roomFor
 room-there w n e = let p = both (leb w 32) (leb (16 * w) n) e in (leb-true _ _ (p .0), leb-true _ _ (p .1))
 
-pub not-unpacked : (w : ℕ) (bytes values : List ℕ) → roomFor w (length bytes) ≡ false → Unpacked w bytes values values false
+pub not-unpacked : (w more : ℕ) (bytes values : List ℕ) → roomFor w (length bytes) ≡ false → Unpacked w more bytes values values false
 unfolding choose
-not-unpacked w bytes values e = record { answer = rw e; values = rw e }
+not-unpacked w more bytes values e = record { answer = rw e; values = rw e }
 
-pub unpacked : (w : ℕ) (bytes before after : List ℕ) → roomFor w (length bytes) ≡ true → after ≡ unpack w bytes → Unpacked w bytes before after true
+pub unpacked :
+    (w more : ℕ) (bytes before after : List ℕ) → roomFor w (length bytes) ≡ true → after ≡ map (withMore more) (unpack w bytes)
+    → Unpacked w more bytes before after true
 unfolding choose
-unpacked w bytes before after e same = record { answer = rw e; values = rw e same }
+unpacked w more bytes before after e same = record { answer = rw e; values = rw e same }
 
 pub not-packed : (w : ℕ) (values area : List ℕ) → roomFor w (length area) ≡ false → Packed w values area area false
 unfolding choose

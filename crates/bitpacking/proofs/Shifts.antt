@@ -1,69 +1,50 @@
 -- Shifts, `|` and masks on 32-bit words, as sums, quotients and remainders.
+--     lowest        the lowest of some bits
+--     upper         .. and those above them
 --     masked-shift  a value put above other bits
---     two-words     a value that begins at bit o of a word and may go on in the next, taken out by shifts, `|` and a mask
+--     joined        a value of two parts, put together by a shift, `|` and a mask
 --     mask-ones     the mask of w ones
---     upper-drops   where the value ends within the first word, the next one doesn't matter
 -- Assumes nothing.
 use mathlib.Core.Path.{_≡_, sym, ap, _∙_}
-use Prim.Native.Nat.{ℕ, suc, _+_, _-_, _*_, _/_, _%_, _^_, _≤_, _<_}
-use native.Mathlib.Nat.{mod-eq-of-lt, mul-comm, one-mul, add-comm, add-assoc, mul-assoc, div-add-mod', mul-add-mod-self-right, add-mul-div-right, mul-mod-left, pow-suc, mul-right-comm, add-zero, mod-le, lt-trans, lt-of-lt-of-le, lt-of-le-of-lt}
+use Prim.Native.Nat.{ℕ, _+_, _-_, _*_, _/_, _%_, _^_, _≤_, _<_}
+use native.Mathlib.Nat.{mod-eq-of-lt, mod-le, mod-add-mod, mul-mod-left, add-zero, add-comm, one-mul, le-of-lt, lt-trans, lt-of-lt-of-le, lt-of-le-of-lt}
 use lib.Dec.{lit<}
 use native.Mathlib.Omega.{arith}
 use lib.Bits.{bitOr, bitAnd, or-shifted-r, and-mask}
-use lib.Pow.{pow-pos, pow-lt, pow-add, mod-pow-add, shl-shr, shl-lt, shr-lt, pow-mono, ones-split, ones-lt, high}
+use lib.Pow.{pow-lt, pow-mono, mod-pow-add, mod-mod-pow, field, shl-shr, shl-lt, ones-split, ones-lt, high}
 
--- a remainder may be taken before a product
-mod-mul-mod : (x y m : ℕ) → x % m * y % m ≡ x * y % m
-mod-mul-mod x y m =
-    sym (mul-add-mod-self-right (x / m * y) m (x % m * y))
-    ∙ ap (λ n. n % m) (ap (λ n. n + x % m * y) (mul-right-comm (x / m) y m) ∙ sym (native.Mathlib.Nat.add-mul (x / m * m) (x % m) y) ∙ ap (λ n. n * y) (div-add-mod' x m))
+parts : (n k : ℕ) → k ≤ n → n ≡ n - k + k
+parts n k h = omega arith
+
+pub lowest : (x n k : ℕ) → k ≤ n → x % 2 ^ n % 2 ^ k ≡ x % 2 ^ k
+lowest x n k h = ap (λ (i : ℕ). x % 2 ^ i % 2 ^ k) (parts n k h) ∙ mod-mod-pow x (n - k) k
+
+pub upper : (x n k : ℕ) → k ≤ n → x % 2 ^ n / 2 ^ k ≡ x / 2 ^ k % 2 ^ (n - k)
+upper x n k h = ap (λ (i : ℕ). x % 2 ^ i / 2 ^ k) (parts n k h) ∙ field x (n - k) k
 
 -- what is a multiple of 2 ^ k keeps its lower o digits below 2 ^ (o + k)
 shifted-mod : (x o k : ℕ) → x * 2 ^ k % 2 ^ (o + k) ≡ x % 2 ^ o * 2 ^ k
 shifted-mod x o k = rw (mod-pow-add (x * 2 ^ k) o k, shl-shr x k, mul-mod-left x (2 ^ k)) (add-zero _)
 
--- bits above the w lowest don't matter
-above-drops : (v w q y : ℕ) → (q * 2 ^ (v + w) + y) % 2 ^ w ≡ y % 2 ^ w
-above-drops v w q y = rw (pow-add 2 v w, ← mul-assoc q (2 ^ v) (2 ^ w)) (mul-add-mod-self-right (q * 2 ^ v) (2 ^ w) y)
+-- what the shift drops lies above the mask
+pub joined :
+    (w bits low up : ℕ) → w ≤ 32 → bits < 32 → low < 2 ^ bits
+    → bitAnd (bitOr low (up * 2 ^ bits % 2 ^ 32)) (2 ^ w - 1) ≡ (low + up * 2 ^ bits) % 2 ^ w
+joined w bits low up hw hb h =
+    rw (and-mask (bitOr low (x % 2 ^ 32)) w, sum)
+    (sym (mod-add-mod (x % 2 ^ 32) (2 ^ w) low)
+    ∙ ap (λ (y : ℕ). (y + low) % 2 ^ w) (lowest x 32 w hw)
+    ∙ mod-add-mod x (2 ^ w) low
+    ∙ ap (λ (y : ℕ). y % 2 ^ w) (add-comm x low))
+  where
+    x : ℕ
+    x = up * 2 ^ bits
 
--- (low + 2 ^ 32 * up) / 2 ^ o, for k + o = 32: the upper part of low, with up above it
-split-shift : (k o low up : ℕ) → k + o ≡ 32 → (low + 2 ^ 32 * up) / 2 ^ o ≡ low / 2 ^ o + up * 2 ^ k
-split-shift k o low up e =
-    ap (λ n. (low + n) / 2 ^ o) (mul-comm (2 ^ 32) up ∙ ap (λ n. up * 2 ^ n) (sym e) ∙ ap (λ n. up * n) (pow-add 2 k o) ∙ sym (mul-assoc up (2 ^ k) (2 ^ o)))
-    ∙ add-mul-div-right low (up * 2 ^ k) (pow-pos o)
+    kept : x % 2 ^ 32 ≡ up % 2 ^ (32 - bits) * 2 ^ bits
+    kept = ap (λ (n : ℕ). x % 2 ^ n) (parts 32 bits (le-of-lt hb)) ∙ shifted-mod up (32 - bits) bits
 
--- up * 2 ^ k in full, k + o = 32: what leaves the 32 bits, and what stays
-leaves : (k o up : ℕ) → k + o ≡ 32 → up * 2 ^ k ≡ up / 2 ^ o * 2 ^ 32 + up % 2 ^ o * 2 ^ k
-leaves k o up e =
-    ap (λ n. n * 2 ^ k) (sym (div-add-mod' up (2 ^ o)))
-    ∙ native.Mathlib.Nat.add-mul (up / 2 ^ o * 2 ^ o) (up % 2 ^ o) (2 ^ k)
-    ∙ ap (λ n. n + up % 2 ^ o * 2 ^ k) (mul-assoc (up / 2 ^ o) (2 ^ o) (2 ^ k) ∙ ap (λ n. up / 2 ^ o * n) (sym (pow-add 2 o k) ∙ ap (λ n. 2 ^ n) (add-comm o k ∙ e)))
-
--- `up << 1 << j`, where suc j + o = 32
-shift-twice : (j o up : ℕ) → suc j + o ≡ 32 → up * 2 % 2 ^ 32 * 2 ^ j % 2 ^ 32 ≡ up % 2 ^ o * 2 ^ suc j
-shift-twice j o up e =
-    mod-mul-mod (up * 2) (2 ^ j) (2 ^ 32)
-    ∙ ap (λ n. n % 2 ^ 32) (mul-assoc up 2 (2 ^ j) ∙ ap (λ n. up * n) (mul-comm 2 (2 ^ j) ∙ sym (pow-suc 2 j)))
-    ∙ ap (λ n. up * 2 ^ suc j % 2 ^ n) (sym e ∙ add-comm (suc j) o)
-    ∙ shifted-mod up o (suc j)
-
-pub two-words :
-    (j o v w low up : ℕ) → suc j + o ≡ 32 → v + w ≡ 32 → low < 2 ^ 32
-    → bitAnd (bitOr (low / 2 ^ o) (up * 2 % 2 ^ 32 * 2 ^ j % 2 ^ 32)) (2 ^ w - 1) ≡ (low + 2 ^ 32 * up) / 2 ^ o % 2 ^ w
-two-words j o v w low up e f h =
-    rw (
-      and-mask (bitOr (low / 2 ^ o) (up * 2 % 2 ^ 32 * 2 ^ j % 2 ^ 32)) w,
-      shift-twice j o up e,
-      or-shifted-r (up % 2 ^ o) (suc j) (low / 2 ^ o) (shr-lt (suc j) o (rw e h)),
-      split-shift (suc j) o low up e,
-      leaves (suc j) o up e,
-    )
-    (sym (above-drops v w (up / 2 ^ o) (up % 2 ^ o * 2 ^ suc j + low / 2 ^ o))
-    ∙ ap (λ n. n % 2 ^ w) (ap (λ n. up / 2 ^ o * 2 ^ n + (up % 2 ^ o * 2 ^ suc j + low / 2 ^ o)) f ∙ sym (add-assoc _ _ _) ∙ add-comm _ _))
-
-pub upper-drops : (k o v w low up : ℕ) → k + o ≡ 32 → v + w ≡ k → (low + 2 ^ 32 * up) / 2 ^ o % 2 ^ w ≡ low / 2 ^ o % 2 ^ w
-upper-drops k o v w low up e f =
-    rw (split-shift k o low up e, add-comm (low / 2 ^ o) (up * 2 ^ k), ← f) (above-drops v w up (low / 2 ^ o))
+    sum : bitOr low (x % 2 ^ 32) ≡ x % 2 ^ 32 + low
+    sum = rw kept (or-shifted-r (up % 2 ^ (32 - bits)) bits low h)
 
 -- w ones, by a shift of 32
 pub mask-ones : (v w : ℕ) → v + w ≡ 32 → 4294967295 / 2 ^ v ≡ 2 ^ w - 1

@@ -3,12 +3,13 @@
 use common::u32_from_le_bytes;
 use common::u32_to_le_bytes;
 ghost use mathlib.Core.Path.{_≡_};
-ghost use Prim.Native.Nat.{ℕ, _+_, _-_, _*_, _/_, _%_, _^_, _≤_, _<_, max};
+ghost use Prim.Native.Nat.{ℕ, _+_, _-_, _*_, _%_, _^_, _≤_, _<_, max};
+ghost use mathlib.Core.List.{map};
 ghost use lib.ListN.{length};
-ghost use Rattle.format.specs.Basics.{fourBytes, word};
-ghost use Rattle.format.specs.Bitpacking.{unpackedAt, packedAt, largest, width};
+ghost use Rattle.format.specs.Basics.{fourBytes};
+ghost use Rattle.format.specs.Bitpacking.{packedAt, largest, width};
 ghost use Rattle.format.specs.Bitpacking as packing;
-ghost use Rattle.bitpacking.specs.Packed.{roomFor, Unpacked, Packed, BlockThere, RowThere, Fills, WordIs, WordsAre, LanesAt, RowPacks, RowAdded, wordsTaken, filled, fromWords};
+ghost use Rattle.bitpacking.specs.Packed.{roomFor, withMore, Unpacked, Packed, BlockThere, RowThere, LeftAt, RowIs, moreAt, wordsFrom, bitsTaken, Fills, WordIs, WordsAre, LanesAt, RowPacks, RowAdded, wordsTaken, filled};
 
 // The word at byte p.
 fn word_at(bytes: &[u8], p: usize) -> u32
@@ -18,62 +19,147 @@ fn word_at(bytes: &[u8], p: usize) -> u32
     u32_from_le_bytes(bytes[p], bytes[p + 1], bytes[p + 2], bytes[p + 3])
 }
 
-// The value that begins at bit o of a lane's word `low` and may go on in its next word `up`; the mask has as many ones as the
-// value has bits. All in 32 bits: `<< 1 << (31 - o)` shifts by 32 - o, which may be 32.
-fn value_at(low: u32, up: u32, o: u32, mask: u32) -> u32
-    requires { ⌜ o < 32 ⌝ }
-    ensures { λ r. ⌜ ((w : ℕ) → w ≤ 32 → mask ≡ 2 ^ w - 1 → r ≡ fromWords low up o w) ⌝ }
-{
-    ((low >> o) | ((up << 1) << (31 - o))) & mask
+// What is left of the words read last, one of each lane: the lanes' next bits, the same number of each. The words behind them lie
+// side by side from byte `at` on.
+pub struct Left {
+    pub a: u32,
+    pub b: u32,
+    pub c: u32,
+    pub d: u32,
+    pub bits: u32,
+    pub at: usize,
 }
 
-// Where the upper word of a value lies that begins at bit o of the word at p. One that ends within that word needs none: there
-// its own serves, since the mask drops it, and no byte behind the block is read.
-fn upper_word(p: usize, o: usize, w: usize) -> usize
-    requires { ⌜ (p < 2 ^ 32) × ((o < 32) × (w ≤ 32)) ⌝ }
-    ensures { λ r. ⌜ (32 < o + w → r ≡ p + 16) × (o + w ≤ 32 → r ≡ p) ⌝ }
+// The words from byte p on, nothing taken of them.
+fn words_at(bytes: &[u8], p: usize) -> Left
+    requires { ⌜ p + 16 ≤ length (now bytes) ⌝ }
+    ensures { λ r. ⌜ r ≡ wordsFrom (now (bytes .entry)) p ⌝ }
 {
-    if 32 < o + w { p + 16 } else { p }
+    Left {
+        a: word_at(bytes, p),
+        b: word_at(bytes, p + 4),
+        c: word_at(bytes, p + 8),
+        d: word_at(bytes, p + 12),
+        bits: 32,
+        at: p + 16,
+    }
 }
 
-// The value that begins at bit o of the word at byte p and may go on in the word at byte q.
-fn lane_at(bytes: &[u8], p: usize, q: usize, o: u32, mask: u32) -> u32
-    requires { ⌜ (p + 4 ≤ length (now bytes)) × ((q + 4 ≤ length (now bytes)) × (o < 32)) ⌝ }
-    ensures { λ r. ⌜ ((w : ℕ) → w ≤ 32 → mask ≡ 2 ^ w - 1 → r ≡ fromWords (word (now (bytes .entry)) p) (word (now (bytes .entry)) q) o w) ⌝ }
+// What is left behind the next k bits of each lane.
+fn bits_taken(left: Left, k: u32) -> Left
+    requires { ⌜ (k ≤ left .bits) × (k < 32) ⌝ }
+    ensures { λ r. ⌜ r ≡ bitsTaken k left ⌝ }
 {
-    value_at(word_at(bytes, p), word_at(bytes, q), o, mask)
+    Left {
+        a: left.a >> k,
+        b: left.b >> k,
+        c: left.c >> k,
+        d: left.d >> k,
+        bits: left.bits - k,
+        at: left.at,
+    }
 }
 
-// The four values of a row, one of each lane. They begin at bit row * w of their lanes, whose words lie side by side. All are read
-// before the first is stored, so that the compiler may take them together.
-fn unpack_row(bytes: &[u8], row: usize, w: usize, mask: u32, values: &mut [u32])
-    requires { ⌜ RowThere w row mask (now bytes) (now values) ⌝ }
-    ensures { λ _. ⌜ Fills (4 * row) (4 * row + 4) (unpackedAt w (now (bytes .entry))) (now (values .entry)) (now (values .exit)) ⌝ }
+// What is left of whole words behind k + 1 bits. These may be all 32, and no shift goes so far at once.
+fn words_begun(words: Left, k: u32) -> Left
+    requires { ⌜ (words .bits ≡ 32) × (k < 32) ⌝ }
+    ensures { λ r. ⌜ r ≡ bitsTaken (k + 1) words ⌝ }
 {
-    let bit = row * w;
-    let o = bit % 32;
-    let at = bit / 32 * 16;
-    let up = upper_word(at, o, w);
-    let shift = o as u32;
-    let first = 4 * row;
-    let a = lane_at(bytes, at, up, shift, mask);
-    let b = lane_at(bytes, at + 4, up + 4, shift, mask);
-    let c = lane_at(bytes, at + 8, up + 8, shift, mask);
-    let d = lane_at(bytes, at + 12, up + 12, shift, mask);
-    values[first] = a;
-    values[first + 1] = b;
-    values[first + 2] = c;
-    values[first + 3] = d;
+    Left {
+        a: (words.a >> k) >> 1,
+        b: (words.b >> k) >> 1,
+        c: (words.c >> k) >> 1,
+        d: (words.d >> k) >> 1,
+        bits: 31 - k,
+        at: words.at,
+    }
+}
+
+// The value that begins with what is left of a lane, so many bits, and goes on in the lane's next word; the mask has as many ones as
+// the value has bits, at most 32, so that what the shift drops lies above them.
+fn value_across(rest: u32, word: u32, bits: u32, mask: u32) -> u32
+    requires { ⌜ (rest < 2 ^ bits) × (bits < 32) ⌝ }
+    ensures { λ r. ⌜ ((w : ℕ) → w ≤ 32 → mask ≡ 2 ^ w - 1 → r ≡ (rest + word * 2 ^ bits) % 2 ^ w) ⌝ }
+{
+    (rest | (word << bits)) & mask
+}
+
+// A value with `more` added, modulo 2 ^ 32.
+fn with_more(value: u32, more: u32) -> u32
+    ensures { λ r. ⌜ r ≡ withMore more value ⌝ }
+{
+    ((value as u64 + more as u64) % 4294967296) as u32
+}
+
+// Four values side by side from place p on, `more` added to each.
+fn put_row(values: &mut [u32], p: usize, more: u32, a: u32, b: u32, c: u32, d: u32)
+    requires { ⌜ p + 4 ≤ length (now values) ⌝ }
+    ensures { λ _. ⌜ ((f : ℕ → ℕ) → RowIs f p more a b c d → Fills p (p + 4) f (now (values .entry)) (now (values .exit))) ⌝ }
+{
+    values[p] = with_more(a, more);
+    values[p + 1] = with_more(b, more);
+    values[p + 2] = with_more(c, more);
+    values[p + 3] = with_more(d, more);
+}
+
+// The four values of a row, one of each lane: within what is left, or where that has too few bits, across into the next words. Answers
+// what is left behind them.
+fn unpack_row(
+    left: Left,
+    bytes: &[u8],
+    row: usize,
+    w: u32,
+    mask: u32,
+    more: u32,
+    values: &mut [u32],
+) -> Left
+    requires { ⌜ RowThere w row mask (now bytes) (now values) left ⌝ }
+    ensures { λ r. ⌜ LeftAt w (row + 1) (now (bytes .entry)) r ⌝ }
+    ensures { λ r. ⌜ Fills (4 * row) (4 * row + 4) (moreAt w more (now (bytes .entry))) (now (values .entry)) (now (values .exit)) ⌝ }
+{
+    let bits = left.bits;
+    if w <= bits {
+        put_row(
+            values,
+            4 * row,
+            more,
+            left.a & mask,
+            left.b & mask,
+            left.c & mask,
+            left.d & mask,
+        );
+        return bits_taken(left, w);
+    }
+    let words = words_at(bytes, left.at);
+    put_row(
+        values,
+        4 * row,
+        more,
+        value_across(left.a, words.a, bits, mask),
+        value_across(left.b, words.b, bits, mask),
+        value_across(left.c, words.c, bits, mask),
+        value_across(left.d, words.d, bits, mask),
+    );
+    words_begun(words, w - bits - 1)
 }
 
 // All rows of a block whose values have bits.
-fn unpack_rows(bytes: &[u8], w: usize, values: &mut [u32])
+fn unpack_rows(bytes: &[u8], w: usize, more: u32, values: &mut [u32])
     requires { ⌜ BlockThere w (now bytes) (now values) ⌝ }
-    ensures { λ _. ⌜ now (values .exit) ≡ packing.unpack w (now (bytes .entry)) ⌝ }
+    ensures { λ _. ⌜ now (values .exit) ≡ map (withMore more) (packing.unpack w (now (bytes .entry))) ⌝ }
 {
     let mask = 4294967295u32 >> (32 - w);
+    let width = w as u32;
+    let mut left = Left {
+        a: 0,
+        b: 0,
+        c: 0,
+        d: 0,
+        bits: 0,
+        at: 0,
+    };
     for row in 0..32 {
-        unpack_row(bytes, row, w, mask, values);
+        left = unpack_row(left, bytes, row, width, mask, more, values);
     }
 }
 
@@ -87,19 +173,19 @@ fn has_room(w: usize, n: usize) -> bool
     16 * w <= n
 }
 
-// Reads the 128 values of the block that begins `bytes`, and answers whether it is there. Where it isn't, `values` stays as it
-// was.
-pub fn unpack(bytes: &[u8], width: u8, values: &mut [u32; 128]) -> bool
-    ensures { λ r. ⌜ Unpacked width (now (bytes .entry)) (now (values .entry)) (now (values .exit)) r ⌝ }
+// Reads the 128 values of the block that begins `bytes`, adds `more` to each, modulo 2 ^ 32, and answers whether the block is there.
+// Where it isn't, `values` stays as it was.
+pub fn unpack(bytes: &[u8], width: u8, more: u32, values: &mut [u32; 128]) -> bool
+    ensures { λ r. ⌜ Unpacked width more (now (bytes .entry)) (now (values .entry)) (now (values .exit)) r ⌝ }
 {
     let w = width as usize;
     if !has_room(w, bytes.len()) {
         return false;
     }
     if w == 0 {
-        *values = [0u32; 128];
+        *values = [more; 128];
     } else {
-        unpack_rows(bytes, w, values);
+        unpack_rows(bytes, w, more, values);
     }
     true
 }

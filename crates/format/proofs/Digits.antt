@@ -48,7 +48,7 @@ module _ (b s : ℕ) (d : ℕ → ℕ) (small : (i : ℕ) → d i < 2 ^ b) where
       (number-from n k (i + s) ∙ ap (number b s d (n - k)) (omega arith))
 
   -- .. where digit k is one of them
-  pub number-step : (n k i : ℕ) → k < n
+  number-step : (n k i : ℕ) → k < n
       → number b s d n i / 2 ^ (k * b) ≡ d (i + s * k) + 2 ^ b * number b s d (n - suc k) (i + s * k + s)
   unfolding number
   number-step n k i h =

@@ -2,7 +2,7 @@
 -- What goes by recursion is proved of `tabulateFrom`, over its first index, and read at 0.
 -- Assumes nothing.
 use mathlib.Core.Path.{_≡_, refl, sym, ap, _∙_}
-use mathlib.Core.List.{List, [], _∷_, _++_}
+use mathlib.Core.List.{List, [], _∷_, _++_, map}
 use Prim.Native.Nat.{ℕ, zero, suc, _+_, _<_, suc-le-suc}
 use native.Mathlib.Nat.{add-zero, zero-add, add-assoc, zero-lt-suc, le-of-suc-le-suc, not-suc-le-zero}
 use native.Mathlib.Numerals.{add-one, one-add}
@@ -33,6 +33,11 @@ unfolding tabulateFrom
 from-below zero k f h = tt
 from-below (suc n) k f h =
     (rw add-zero at (h 0 (zero-lt-suc n)), from-below n (k + 1) f (λ i b. rw (add-assoc, one-add) (h (suc i) (suc-le-suc b))))
+
+from-map : {A B : Type 0} (n k : ℕ) (f : ℕ → A) (g : A → B) → map g (tabulateFrom n k f) ≡ tabulateFrom n k (λ i. g (f i))
+unfolding tabulateFrom
+from-map zero k f g = refl
+from-map (suc n) k f g = ap (λ (l : List _). g (f k) ∷ l) (from-map n (k + 1) f g)
 
 pub tabulate-length : {A : Type 0} (n : ℕ) (f : ℕ → A) → length (tabulate n f) ≡ n
 unfolding tabulate
@@ -71,3 +76,7 @@ tabulate-same n f g h =
 pub tabulate-below : {m : ℕ} (n : ℕ) (f : ℕ → ℕ) → ((i : ℕ) → i < n → f i < m) → AllBelow m (tabulate n f)
 unfolding tabulate
 tabulate-below n f h = from-below n 0 f (λ i b. rw zero-add (h i b))
+
+pub tabulate-map : {A B : Type 0} (n : ℕ) (f : ℕ → A) (g : A → B) → map g (tabulate n f) ≡ tabulate n (λ i. g (f i))
+unfolding tabulate
+tabulate-map n f g = from-map n 0 f g

@@ -2,11 +2,11 @@
 -- Assumes nothing.
 use mathlib.Core.Path.{_≡_, sym, ap, _∙_}
 use mathlib.Core.List.{List}
-use Prim.Native.Nat.{ℕ, _+_}
+use Prim.Native.Nat.{ℕ}
 use native.Mathlib.Omega.{arith}
 use lib.ListN.{getD, length-set}
 use Rattle.format.specs.Basics.{le32}
-use Rattle.bitpacking.proofs.Filled.{fill-next}
+use Rattle.bitpacking.proofs.Filled.{fill-four}
 use borrow.Author.Needs.{needs}
 use Rattle.bitpacking.proofs.put_word.Statement.{statement}
 use Rattle.bitpacking.proofs.put_word.Tie as tie
@@ -56,10 +56,7 @@ returns c f is l fits same =
     let p : ℕ = c .before .before .args .p in
     let byte : (k : ℕ) → getD (c .u32-to-le-bytes .result) k 0 ≡ getD (le32 (c .before .before .args .x)) k 0 =
     λ k. ap (λ (bytes : List ℕ). getD bytes k 0) (c .u32-to-le-bytes .ensures) in
-    fill-next (p + 3) (p + 4) _ f _ l (omega arith) fits (byte 3 ∙ sym (is .byte₃))
-    (fill-next (p + 2) (p + 3) _ f _ l (omega arith) (omega arith) (byte 2 ∙ sym (is .byte₂))
-    (fill-next (p + 1) (p + 2) _ f _ l (omega arith) (omega arith) (byte 1 ∙ sym (is .byte₁))
-    (fill-next p (p + 1) _ f _ l (omega arith) (omega arith) (byte 0 ∙ sym (is .byte₀)) same)))
+    fill-four p f _ l fits (byte 0 ∙ sym (is .byte₀)) (byte 1 ∙ sym (is .byte₁)) (byte 2 ∙ sym (is .byte₂)) (byte 3 ∙ sym (is .byte₃)) same
 
 pub put-word-spec : {M : Type 1} → statement M
 put-word-spec =
