@@ -3,15 +3,14 @@
 -- step: f s (v ∷ vs) ≡ out s v ∷ f (next s v) vs. What the loop leaves at its end is then the same told from any turn on, which is
 -- the loop's invariant, `Replacing`. Behind that: a loop over n places of a list, where n may be larger than the list is long.
 -- Assumes nothing.
-use mathlib.Core.Path.{_≡_, refl, ap₂, _∙_, sym}
-use mathlib.Core.List.{List, [], _∷_, _++_, map, append-nil}
-use Prim.Native.Nat.{ℕ, suc, _+_, _%_, _^_, _≤_, _<_, min}
+use mathlib.Core.Path.{_≡_, refl, _∙_, sym}
+use mathlib.Core.List.{List, [], _∷_, _++_, append-nil}
+use Prim.Native.Nat.{ℕ, suc, _+_, _≤_, _<_, min}
 use native.Mathlib.Decide.{decLe}
 use native.Mathlib.Numerals.{add-one}
 use native.Mathlib.Omega.{arith}
 use lib.ListN.{length, getD, take, drop, set, take-append-drop, drop-of-length-le, length-set}
 use lib.Seq.{slice, slice-cons, slice-empty, take-all, take-suc-set, take-set-lt, drop-set-lt, append-snoc}
-use Rattle.compression.specs.Restored.{inPlace}
 
 -- the value at place i, and those behind it, which a store at i leaves
 pub slice-turn : (l : List ℕ) (i n a : ℕ) → i < n → n ≤ length l → slice i n l ≡ getD l i 0 ∷ slice (i + 1) n (set l i a)
@@ -62,7 +61,7 @@ module _ {S : Type 0} (f : S → List ℕ → List ℕ) (none : (s : S) → f s 
 
 -- n places of a list are all of them where n is larger
 module _ (m n : ℕ) (l : List ℕ) (clamps : m ≡ min n (length l)) where
-  clamped : (take m l ≡ take n l) × (drop m l ≡ drop n l)
+  pub clamped : (take m l ≡ take n l) × (drop m l ≡ drop n l)
   clamped = go (decLe (length l) n)
     where
       go : Dec (length l ≤ n) → (take m l ≡ take n l) × (drop m l ≡ drop n l)
@@ -71,7 +70,3 @@ module _ (m n : ℕ) (l : List ℕ) (clamps : m ≡ min n (length l)) where
 
   pub take-clamped : take m l ≡ take n l
   take-clamped = clamped .0
-
-  pub inPlace-clamped : (f : List ℕ → List ℕ) → inPlace m (f (take m l)) l ≡ inPlace n (f (take n l)) l
-  unfolding inPlace
-  inPlace-clamped f = ap₂ (λ (vs rest : List ℕ). map (λ k. k % 2 ^ 32) (f vs) ++ rest) (clamped .0) (clamped .1)

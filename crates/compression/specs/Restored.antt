@@ -1,41 +1,57 @@
 -- What restoring a block's values in place answers and leaves.
 -- Assumes nothing.
 use mathlib.Core.Path.{_≡_}
-use mathlib.Core.Bool.{Bool}
-use mathlib.Core.List.{List, _++_, map}
-use Prim.Native.Nat.{ℕ, _%_, _^_}
-use lib.Dec.{ltb}
+use mathlib.Core.Bool.{Bool, true, _&&_ as and}
+use mathlib.Core.List.{List, [], _∷_, _++_, map}
+use Prim.Native.Nat.{ℕ, zero, suc, _+_, _-_, _%_, _^_}
+use lib.Dec.{leb, ltb}
 use lib.ListN.{take, drop}
-use lib.Seq.{slice}
 use Rattle.compression.specs.declared.values.Restored.{Restored}
 use Rattle.compression.specs.declared.values.Restored.the-variants.{Rising, NotRising}
 use Rattle.format.specs.Basics.{choose, lastOf, TERMINATED}
-use Rattle.format.specs.Values.{idsFrom, ids, restored, rising, countable}
+use Rattle.format.specs.Values.{idsFrom}
+
+-- ---- ids by their differences. The difference of an id is what it lies above the one before; of a list's first it is one more than the
+-- id, as if an id stood before 0
+
+-- the ids of differences; `least` is one more than the id before the first
+unfoldable pub idsBehind : ℕ → List ℕ → List ℕ
+idsBehind least [] = []
+idsBehind least (d ∷ ds) = (least + d - 1) ∷ idsBehind (least + d) ds
+
+-- question 6 of them: no difference is 0, and each id lies below TERMINATED
+unfoldable pub inOrder : ℕ → List ℕ → Bool
+inOrder least [] = true
+inOrder least (d ∷ ds) = and (and (leb 1 d) (leb (least + d) TERMINATED)) (inOrder (least + d) ds)
+
+-- the difference of a list's first id; 0, which is refused as well, where the id is too large
+unfoldable pub firstDifference : ℕ → ℕ
+unfolding choose
+firstDifference d = choose (ltb d TERMINATED) (λ _. d + 1) (λ _. 0)
+
+-- the values of the non-strict form as differences: they are that, but for a list's first id
+unfoldable pub asDifferences : ℕ → List ℕ → List ℕ
+unfolding firstDifference
+asDifferences least [] = []
+asDifferences zero (v ∷ vs) = firstDifference v ∷ vs
+asDifferences (suc least) (v ∷ vs) = v ∷ vs
+
+-- what `restore_docs` answers, question 6: the last id, 0 where there is none, if they are in order; and leaves, if they are: the ids in
+-- the place of the first n differences
+unfoldable pub risen : ℕ → List ℕ → Restored
+unfolding choose lastOf inOrder idsBehind
+risen least ds = choose (inOrder least ds) (λ _. Rising (lastOf 0 (idsBehind least ds))) (λ _. NotRising)
+
+pub record DocsRestored (least n : ℕ) (entry exit : List ℕ) (answer : Restored) : Type 0 where
+  pub answered : answer ≡ risen least (take n entry)
+  pub left : inOrder least (take n entry) ≡ true → exit ≡ idsBehind least (take n entry) ++ drop n entry
+
+-- ---- the private functions below it
 
 -- the numbers in the place of the first n values, every other value as before. A place has 32 bits: of a number that needs more,
--- which is no id and no frequency, it has the lowest
+-- which is no id, it has the lowest
 unfoldable pub inPlace : ℕ → List ℕ → List ℕ → List ℕ
 inPlace n ns values = map (λ k. k % 2 ^ 32) ns ++ drop n values
-
--- question 6: the last id, 0 where there is none, if they rise
-unfoldable pub risen : ℕ → List ℕ → Restored
-unfolding choose rising lastOf
-risen least ds = choose (rising least ds) (λ _. Rising (lastOf 0 ds)) (λ _. NotRising)
-
--- what `restore_docs` answers, question 6, and leaves
-pub record DocsRestored (strict : Bool) (least n : ℕ) (entry exit : List ℕ) (answer : Restored) : Type 0 where
-  pub answered : answer ≡ risen least (ids strict least (take n entry))
-  pub left : exit ≡ inPlace n (ids strict least (take n entry)) entry
-
--- what `restore_freqs` answers, question 7, and leaves
-pub record FreqsRestored (strict : Bool) (n : ℕ) (entry exit : List ℕ) (answer : Bool) : Type 0 where
-  pub answered : answer ≡ countable (restored strict (take n entry))
-  pub left : exit ≡ inPlace n (restored strict (take n entry)) entry
-
--- .. and the private functions below them. `restore_from`: the same of the values from place `start` on
-pub record RestoredFrom (strict : Bool) (start n : ℕ) (entry exit : List ℕ) (answer : Bool) : Type 0 where
-  pub answered : answer ≡ countable (restored strict (slice start n entry))
-  pub left : exit ≡ take start entry ++ inPlace n (restored strict (slice start n entry)) entry
 
 -- `sum`: the sums of values are ids of which nothing was left out
 pub record Summed (before n : ℕ) (entry exit : List ℕ) (last : ℕ) : Type 0 where

@@ -3,11 +3,12 @@
 use common::difference;
 use format::TERMINATED;
 ghost use mathlib.Core.Path.{_≡_};
-ghost use mathlib.Core.Bool.{true};
+ghost use mathlib.Core.Bool.{true, false};
 ghost use Prim.Native.Nat.{_≤_, _<_, _^_, min};
-ghost use lib.ListN.{length};
+ghost use lib.ListN.{length, take};
+ghost use Rattle.format.specs.Model.{member};
 ghost use Rattle.format.specs.Values as specs;
-ghost use Rattle.compression.specs.Restored.{ending, Summed, RestoredFrom, DocsRestored, FreqsRestored};
+ghost use Rattle.compression.specs.Restored.{ending, firstDifference, asDifferences, Summed, DocsRestored};
 
 // What question 6 answers of ids: the last one, 0 where there is none; or that they don't rise.
 pub enum Restored {
@@ -15,15 +16,15 @@ pub enum Restored {
     NotRising,
 }
 
-// How many places of a block n values take.
-fn places(n: usize) -> usize
-    ensures { λ r. ⌜ r ≡ min n 128 ⌝ }
+// The smaller of two numbers.
+fn smaller(a: usize, b: usize) -> usize
+    ensures { λ r. ⌜ r ≡ min a b ⌝ }
 {
-    if n < 128 { n } else { 128 }
+    if a < b { a } else { b }
 }
 
 // What the strict form leaves out of each difference and each frequency.
-fn reduction(strict: bool) -> u64
+pub fn reduction(strict: bool) -> u32
     ensures { λ r. ⌜ r ≡ specs.reduction strict ⌝ }
 {
     if strict { 1 } else { 0 }
@@ -56,22 +57,37 @@ pub fn reduce_freqs(freqs: &mut [u32; 128])
     }
 }
 
-// Puts back what the strict form left out of the values from place start on, before place n; whether each is then 1 to
-// 4294967295. A value has 32 bits, so one that isn't leaves the remainder 0. Nothing in the loop branches: it becomes vector code.
-fn restore_from(values: &mut [u32], start: usize, n: usize, strict: bool) -> bool
-    requires { ⌜ (start ≤ n) × (n ≤ length (now values)) ⌝ }
-    ensures { λ r. ⌜ RestoredFrom strict start n (now (values .entry)) (now (values .exit)) r ⌝ }
+// Whether one of the first n values, of all of them where n is larger, is 0. Nothing in the loop branches: it becomes vector code.
+pub fn has_zero(values: &[u32], n: usize) -> bool
+    ensures { λ r. ⌜ r ≡ member 0 (take n (now (values .entry))) ⌝ }
 {
-    let more = reduction(strict);
-    let mut bad = false;
-    let mut i = start;
-    while i < n {
-        let f = ((values[i] as u64 + more) % 4294967296) as u32;
-        values[i] = f;
-        bad = bad | (f == 0);
+    let m = smaller(n, values.len());
+    let mut found = false;
+    let mut i = 0;
+    while i < m {
+        found = found | (values[i] == 0);
         i += 1;
     }
-    !bad
+    found
+}
+
+// The difference of a list's first id: one more than the id. An id that is too large has none, and 0 is refused as well.
+fn first_difference(id: u32) -> u32
+    ensures { λ r. ⌜ r ≡ firstDifference id ⌝ }
+{
+    if id < TERMINATED { id + 1 } else { 0 }
+}
+
+// The non-strict form has a list's first id whole: it becomes a difference as the other values are.
+pub fn first_as_difference(values: &mut [u32], least: u32)
+    ensures { λ _. ⌜ now (values .exit) ≡ asDifferences least (now (values .entry)) ⌝ }
+{
+    if values.len() == 0 {
+        return;
+    }
+    if least == 0 {
+        values[0] = first_difference(values[0]);
+    }
 }
 
 // The sums of the first n values on top of before, in their place, and the last sum. A turn waits for one addition of the turn
@@ -101,30 +117,24 @@ fn ending(last: u64) -> Restored
     }
 }
 
-// The ids of the first n values, all of them where n is larger, in their place; question 6. Ids are sums of differences, so they
-// rise where no difference is 0, and then the last one says whether all lie below TERMINATED. The differences have a loop of their
-// own: where the sum's turn adds 1 as well, it takes half as long again.
-pub fn restore_docs(values: &mut [u32; 128], n: usize, strict: bool, least: u32) -> Restored
-    ensures { λ r. ⌜ DocsRestored strict least n (now (values .entry)) (now (values .exit)) r ⌝ }
+// The ids of the first n differences, all of them where n is larger, in their place; question 6. Ids are sums of differences, so they
+// rise where no difference is 0, and then the last one says whether all lie below TERMINATED. The caller may know that none is 0.
+pub fn restore_docs(values: &mut [u32; 128], n: usize, nonzero: bool, least: u32) -> Restored
+    ensures { λ r. ⌜ ((nonzero ≡ true → member 0 (take n (now (values .entry))) ≡ false)
+        → DocsRestored least n (now (values .entry)) (now (values .exit)) r) ⌝ }
 {
-    let m = places(n);
+    let m = smaller(n, 128);
     if m == 0 {
         return Restored::Rising(0);
     }
-    // a list's first value is its first id, and no difference
-    let start = difference(1, least as u64) as usize;
-    let apart = restore_from(values, start, m, strict);
-    let last = sum(values, m, difference(least, 1) as u64);
-    if apart {
-        ending(last)
-    } else {
-        Restored::NotRising
+    let block = &mut values[..];
+    if !nonzero && has_zero(block, m) {
+        return Restored::NotRising;
     }
-}
-
-// The frequencies of the first n values, all of them where n is larger, in their place; question 7.
-pub fn restore_freqs(values: &mut [u32; 128], n: usize, strict: bool) -> bool
-    ensures { λ r. ⌜ FreqsRestored strict n (now (values .entry)) (now (values .exit)) r ⌝ }
-{
-    restore_from(values, 0, places(n), strict)
+    // the difference of a list's first id is one more than the id
+    if least == 0 {
+        block[0] = difference(block[0], 1);
+    }
+    let last = sum(block, m, difference(least, 1) as u64);
+    ending(last)
 }

@@ -26,7 +26,6 @@ pub mod Tabulate
 pub mod Tail
 pub mod Totals
 pub mod Values
-pub mod ValuesCode
 pub mod VintCode
 pub mod Vints
 pub mod Visited

@@ -1,7 +1,7 @@
 -- A tail reads back. Its numbers are gaps and frequencies below 2 ^ 32, the ones behind the others, and nothing follows them.
 -- Where frequencies are not kept, or there is no document, none are read.
 -- Assumes nothing.
-use mathlib.Core.Bool.{Bool, true, false, _&&_ as and, and-false, and-true}
+use mathlib.Core.Bool.{Bool, true, false, not, _&&_ as and, and-false}
 use mathlib.Core.List.{List, [], _∷_, _++_, append-nil}
 use mathlib.Core.Path.{_≡_, refl, sym, ap, _∙_}
 use Prim.Native.Nat.{ℕ, suc, _+_, _^_}
@@ -68,14 +68,18 @@ pub finds-own : (option : IndexRecordOption) (alone : Bool) (ds fs : List ℕ) �
     → Finds option option alone (length ds) fs
 unfolding tailHasFreq hasFreq onlyIf
 finds-own Basic alone ds fs e = refl
-finds-own WithFreqs alone [] fs e = refl
+finds-own WithFreqs alone [] fs e = and-false (not (and alone false))
 finds-own WithFreqs alone (d ∷ ds) [] e = absurd (omega arith)
-finds-own WithFreqs alone (d ∷ ds) (f ∷ fs) e = rw (some-bytes f fs, and-false, and-true)
+finds-own WithFreqs alone (d ∷ ds) (f ∷ fs) e = rw (some-bytes f fs, and-false, and-false)
+
+not-both : (b : Bool) → and (not (and b true)) b ≡ false
+not-both true = refl
+not-both false = refl
 
 finds-none : (reader : IndexRecordOption) (n : ℕ) (fs : List ℕ) → Finds reader Basic true n fs
 unfolding tailHasFreq hasFreq onlyIf
 finds-none Basic n fs = refl
-finds-none WithFreqs n fs = and-false (ltb 0 n)
+finds-none WithFreqs n fs = not-both (ltb 0 n)
 
 not-kept : (mode : ℕ) → keptIn mode false ≡ Basic
 unfolding keptIn

@@ -66,11 +66,16 @@ tailFreqs true true n bs =
     ask (countable (ns .values)) freqOutOfRange λ _.
     ended (ns .values) (drop (ns .used) bs)
 
--- whether a tail of n documents has frequencies: where no block stands before it (`alone`) a nonempty one with no byte after its
--- ids has none; an empty one has none to read
-unfoldable pub tailHasFreq : IndexRecordOption → Bool → ℕ → List ℕ → Bool
+-- whether an image keeps frequencies, by what its entries hold; where no block stands before a tail of n documents (`alone`), a nonempty one
+-- with no byte after its ids has none. bs is what follows the ids
+unfoldable pub keepsFreqs : IndexRecordOption → Bool → ℕ → List ℕ → Bool
 unfolding hasFreq
-tailHasFreq option alone n bs = and (hasFreq option) (and (ltb 0 n) (not (and alone (eqb (length bs) 0))))
+keepsFreqs option alone n bs = and (hasFreq option) (not (and alone (and (ltb 0 n) (eqb (length bs) 0))))
+
+-- .. and whether its tail has them: an empty one has none to read
+unfoldable pub tailHasFreq : IndexRecordOption → Bool → ℕ → List ℕ → Bool
+unfolding keepsFreqs
+tailHasFreq option alone n bs = and (keepsFreqs option alone n bs) (ltb 0 n)
 
 -- questions 8, 6, 8, 7 and 9, of a tail of n documents; bs is all that is left of the image
 unfoldable pub tailBlock : IndexRecordOption → Bool → Bool → ℕ → ℕ → List ℕ → Outcome Block
@@ -123,6 +128,16 @@ readFrom w (suc n) least skips bs =
 -- frequencies are requested in modes 1 and 2
 abbrev pub walkOf : Term → Layout → Walk
 walkOf t l = record { option = l .option; wanted = ltb 0 (t .requested); alone = eqb (fullBlocks t) 0; tail = tailLength t }
+
+-- whether an image keeps frequencies, from its layout and, for a tail alone, from its bytes; bs are the bytes of the tail. Where there are
+-- full blocks these don't matter
+unfoldable pub keptBy : Term → Layout → List ℕ → Bool
+unfolding keepsFreqs fullBlocks tailLength tailNumbers
+keptBy t l bs = keepsFreqs (l .option) (eqb (fullBlocks t) 0) (tailLength t) (drop (tailNumbers (tailLength t) bs .used) bs)
+
+unfoldable pub kept : Term → Layout → List ℕ → Bool
+unfolding keptBy postingBytes
+kept t l bs = keptBy t l (postingBytes l bs)
 
 unfoldable pub readAll : Term → List ℕ → Outcome Layout → Reading
 unfolding nothing readFrom fullBlocks tailLength skipBytes postingBytes

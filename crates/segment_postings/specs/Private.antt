@@ -1,15 +1,16 @@
 -- What the private functions below the calls want and leave.
 -- Assumes nothing.
 use mathlib.Core.Path.{_≡_}
+use mathlib.Core.Bool.{Bool}
 use mathlib.Core.List.{List}
 use Prim.Native.Nat.{ℕ, _+_, _≤_}
-use lib.ListN.{length}
+use lib.ListN.{length, drop}
 use Rattle.format.specs.declared.Layout.{Layout}
 use Rattle.format.specs.declared.Term.{Term}
-use Rattle.format.specs.Basics.{Outcome, ok, refused, andThen, orBefore, TERMINATED}
+use Rattle.format.specs.Basics.{Outcome, ok, refused, andThen, TERMINATED}
 use Rattle.format.specs.SkipEntry.{blockSize}
 use Rattle.format.specs.Layout.{layout, fullBlocks}
-use Rattle.format.specs.Reading.{Block}
+use Rattle.format.specs.Reading.{Block, keptBy}
 use Rattle.segment_postings.specs.declared.SegmentPostings.{SegmentPostings}
 use Rattle.segment_postings.specs.declared.find.Found.{Found}
 use Rattle.segment_postings.specs.declared.find.Start.{Start}
@@ -19,6 +20,8 @@ use Rattle.segment_postings.specs.declared.layout.Laid.{Laid}
 use Rattle.segment_postings.specs.declared.layout.Laid.the-variants as laid-as
 use Rattle.segment_postings.specs.declared.load.Loaded.{Loaded}
 use Rattle.segment_postings.specs.declared.load.Loaded.the-variants as loaded-as
+use Rattle.segment_postings.specs.declared.Reached.{Reached}
+use Rattle.segment_postings.specs.Calls.{reached}
 use Rattle.segment_postings.specs.Landing.{loadBlock, padded, holding}
 
 -- ---- the layout
@@ -50,17 +53,24 @@ pub record FoundThere (t : Term) (bs : List ℕ) (f : Found) : Type 0 where
   pub freq-width : f .info .«freq_width» ≤ 32
   pub bytes : f .at + blockSize (f .info) ≤ length bs
 
-unfoldable pub counted : ℕ → Outcome Block → Loaded
-counted unpacked (ok b) = loaded-as.Unpacked (unpacked + 1)
-counted unpacked (refused n) = loaded-as.Refused n
+unfoldable pub counted : ℕ → Bool → Outcome Block → Loaded
+counted unpacked kept (ok b) = loaded-as.Unpacked (unpacked + 1) kept
+counted unpacked kept (refused n) = loaded-as.Refused n
 
--- a block's documents and frequencies in two lent arrays of 128 places; a refusal leaves them as they were
-pub record BlockLoaded (t : Term) (l : Layout) (bs : List ℕ) (f : Found) (unpacked : ℕ) (docs freqs docs′ freqs′ : List ℕ) (r : Loaded) : Type 0 where
-  pub answer : r ≡ counted unpacked (loadBlock t l bs f)
-  pub docs-after : docs′ ≡ orBefore (λ b. padded TERMINATED (b .docs)) (loadBlock t l bs f) docs
-  pub freqs-after : freqs′ ≡ orBefore (λ b. padded 1 (b .freqs)) (loadBlock t l bs f) freqs
+-- a block's documents and frequencies in two lent arrays of 128 places, and whether its image keeps frequencies; of a refusal's arrays
+-- nothing is told
+pub record BlockLoaded (t : Term) (l : Layout) (bs : List ℕ) (f : Found) (unpacked : ℕ) (docs freqs : List ℕ) (r : Loaded) : Type 0 where
+  pub answer : r ≡ counted unpacked (keptBy t l (drop (f .at) bs)) (loadBlock t l bs f)
+  pub docs-are : (b : Block) → loadBlock t l bs f ≡ ok b → docs ≡ padded TERMINATED (b .docs)
+  pub freqs-are : (b : Block) → loadBlock t l bs f ≡ ok b → freqs ≡ padded 1 (b .freqs)
 
 -- the cursor at the first place of a block that was found
 unfoldable pub loaded : Term → Layout → List ℕ → Found → ℕ → Outcome SegmentPostings
 unfolding andThen loadBlock holding
 loaded t l bs f unpacked = andThen (loadBlock t l bs f) λ block. ok (holding f unpacked block)
+
+-- a call on two arrays that its caller may lose: where it came to, and what they then hold
+pub record Lands (o : Outcome SegmentPostings) (docs freqs : List ℕ) (r : Reached) : Type 0 where
+  pub answer : r ≡ reached o
+  pub docs-are : (c : SegmentPostings) → o ≡ ok c → docs ≡ c .docs
+  pub freqs-are : (c : SegmentPostings) → o ≡ ok c → freqs ≡ c .freqs

@@ -29,7 +29,7 @@ ghost use lib.ListN.{length};
 ghost use Rattle.segment_postings.specs.Landing.{firstStart, landing};
 ghost use Rattle.segment_postings.specs.Cursor.{inBounds, answerAt, answering, opening, leastAfter, startsInside, startBehind, leaving, stepping};
 ghost use Rattle.segment_postings.specs.Calls.{cursorOf, Reaches};
-ghost use Rattle.segment_postings.specs.Private.{FoundThere, FindsFrom, loaded};
+ghost use Rattle.segment_postings.specs.Private.{FoundThere, FindsFrom, loaded, Lands};
 
 // Question 16 of a cursor over an image of `size` bytes: it is asked of the numbers alone.
 pub(crate) fn in_bounds(held: Held, term: Term, size: usize) -> bool
@@ -106,7 +106,8 @@ pub fn answer_at(held: Held, term: Term, docs: &[u32; 128], freqs: &[u32; 128]) 
     shown_at(held, term, docs, freqs)
 }
 
-// Unpacks a block that was found, and goes to its first place: questions 6 to 9.
+// Unpacks a block that was found, and goes to its first place: questions 6 to 9. What a refusal leaves in the arrays, here and in all that
+// goes by this, isn't told: whoever may not lose them lends two of its own.
 fn unpack_found(
     image: &[u8],
     term: Term,
@@ -117,10 +118,10 @@ fn unpack_found(
     freqs: &mut [u32; 128],
 ) -> Reached
     requires { ⌜ FoundThere term (now image) found × (unpacked + 1 < 2 ^ 64) ⌝ }
-    ensures { λ r. ⌜ Reaches (loaded term layout (now (image .entry)) found unpacked) (now (docs .entry)) (now (freqs .entry)) (now (docs .exit)) (now (freqs .exit)) r ⌝ }
+    ensures { λ r. ⌜ Lands (loaded term layout (now (image .entry)) found unpacked) (now (docs .exit)) (now (freqs .exit)) r ⌝ }
 {
     match load_block(image, term, layout, found, unpacked, docs, freqs) {
-        Loaded::Unpacked(unpacked) => {
+        Loaded::Unpacked { unpacked, kept: _ } => {
             let info = found.info;
             Reached::At(Held {
                 place: 0,
@@ -146,7 +147,7 @@ pub(crate) fn land(
     freqs: &mut [u32; 128],
 ) -> Reached
     requires { ⌜ FindsFrom term layout (now image) from × (from .unpacked + 1 < 2 ^ 64) ⌝ }
-    ensures { λ r. ⌜ Reaches (landing term (now (image .entry)) layout target from) (now (docs .entry)) (now (freqs .entry)) (now (docs .exit)) (now (freqs .exit)) r ⌝ }
+    ensures { λ r. ⌜ Lands (landing term (now (image .entry)) layout target from) (now (docs .exit)) (now (freqs .exit)) r ⌝ }
 {
     match find_block(image, term, layout, target, from) {
         Search::To(found) => unpack_found(image, term, layout, found, from.unpacked, docs, freqs),
@@ -167,9 +168,9 @@ pub(crate) fn first_start(layout: Layout) -> Start
     }
 }
 
-// Opens a list at its first document: questions 1 to 4, then entry 0, if any, and block 0.
-pub fn open_in(image: &[u8], term: Term, docs: &mut [u32; 128], freqs: &mut [u32; 128]) -> Reached
-    ensures { λ r. ⌜ Reaches (opening (now (image .entry)) term) (now (docs .entry)) (now (freqs .entry)) (now (docs .exit)) (now (freqs .exit)) r ⌝ }
+// Goes to a list's first document: questions 1 to 4, then entry 0, if any, and block 0.
+fn begin(image: &[u8], term: Term, docs: &mut [u32; 128], freqs: &mut [u32; 128]) -> Reached
+    ensures { λ r. ⌜ Lands (opening (now (image .entry)) term) (now (docs .exit)) (now (freqs .exit)) r ⌝ }
 {
     match lay_out(image, term) {
         Laid::At(layout) => {
@@ -178,6 +179,20 @@ pub fn open_in(image: &[u8], term: Term, docs: &mut [u32; 128], freqs: &mut [u32
         }
         Laid::Refused(n) => Reached::Refused(n),
     }
+}
+
+// Opens a list at its first document; a refusal leaves the arrays as they were.
+pub fn open_in(image: &[u8], term: Term, docs: &mut [u32; 128], freqs: &mut [u32; 128]) -> Reached
+    ensures { λ r. ⌜ Reaches (opening (now (image .entry)) term) (now (docs .entry)) (now (freqs .entry)) (now (docs .exit)) (now (freqs .exit)) r ⌝ }
+{
+    let mut ids = [0; 128];
+    let mut counts = [0; 128];
+    let reached = begin(image, term, &mut ids, &mut counts);
+    if let Reached::At(_) = reached {
+        *docs = ids;
+        *freqs = counts;
+    }
+    reached
 }
 
 // The least id that may follow a last id; none may follow TERMINATED.
@@ -217,7 +232,7 @@ fn starts_inside(term: Term, layout: Layout, block: usize, at: usize) -> bool
 
 // Goes to another block, from a full one: questions 1 to 4 are asked again of the image that is passed, then 5 to 9. A lent
 // cursor that didn't come from this image may place its next block before the posting bytes.
-pub(crate) fn leave(
+fn leave(
     held: Held,
     image: &[u8],
     term: Term,
@@ -225,8 +240,8 @@ pub(crate) fn leave(
     docs: &mut [u32; 128],
     freqs: &mut [u32; 128],
 ) -> Reached
-    requires { ⌜ (inBounds term (now image) (cursorOf held (now docs) (now freqs)) ≡ true) × (held .block < term .count / 128) ⌝ }
-    ensures { λ r. ⌜ Reaches (leaving (cursorOf held (now (docs .entry)) (now (freqs .entry))) (now (image .entry)) term target) (now (docs .entry)) (now (freqs .entry)) (now (docs .exit)) (now (freqs .exit)) r ⌝ }
+    requires { ⌜ ((ds fs : List ℕ) → inBounds term (now image) (cursorOf held ds fs) ≡ true) × (held .block < term .count / 128) ⌝ }
+    ensures { λ r. ⌜ ((ds fs : List ℕ) → Lands (leaving (cursorOf held ds fs) (now (image .entry)) term target) (now (docs .exit)) (now (freqs .exit)) r) ⌝ }
 {
     match lay_out(image, term) {
         Laid::At(layout) => {
@@ -238,6 +253,28 @@ pub(crate) fn leave(
         }
         Laid::Refused(again) => Reached::Refused(again),
     }
+}
+
+// The same; a refusal leaves the arrays as they were.
+pub(crate) fn leave_whole(
+    held: Held,
+    image: &[u8],
+    term: Term,
+    target: u32,
+    docs: &mut [u32; 128],
+    freqs: &mut [u32; 128],
+) -> Reached
+    requires { ⌜ (inBounds term (now image) (cursorOf held (now docs) (now freqs)) ≡ true) × (held .block < term .count / 128) ⌝ }
+    ensures { λ r. ⌜ Reaches (leaving (cursorOf held (now (docs .entry)) (now (freqs .entry))) (now (image .entry)) term target) (now (docs .entry)) (now (freqs .entry)) (now (docs .exit)) (now (freqs .exit)) r ⌝ }
+{
+    let mut ids = [0; 128];
+    let mut counts = [0; 128];
+    let reached = leave(held, image, term, target, &mut ids, &mut counts);
+    if let Reached::At(_) = reached {
+        *docs = ids;
+        *freqs = counts;
+    }
+    reached
 }
 
 // Steps to the next document: in the held block, or to the first of the next one; at the end nowhere.
@@ -267,5 +304,5 @@ pub fn advance_in(
             entries: held.entries,
         });
     }
-    leave(held, image, term, 0, docs, freqs)
+    leave_whole(held, image, term, 0, docs, freqs)
 }

@@ -5,8 +5,10 @@ use crate::layout::full_blocks;
 use bitpacking::unpack;
 use compression::compressed_block_size;
 use compression::values::Restored;
+use compression::values::first_as_difference;
+use compression::values::has_zero;
+use compression::values::reduction;
 use compression::values::restore_docs;
-use compression::values::restore_freqs;
 use format::BYTES_LEFT;
 use format::BlockInfo;
 use format::COMPRESSION_BLOCK_SIZE;
@@ -21,53 +23,57 @@ use format::Term;
 use skip::has_freq;
 use vint::uncompress_unsorted;
 ghost use mathlib.Core.Path.{_≡_};
-ghost use mathlib.Core.Bool.{_&&_ as and};
+ghost use mathlib.Core.Bool.{true, false};
 ghost use Prim.Native.Nat.{_+_, _<_, _^_};
-ghost use lib.Dec.{eqb, ltb};
-ghost use lib.ListN.{length, drop};
-ghost use Rattle.format.specs.SkipEntry.{hasFreq};
-ghost use Rattle.format.specs.Reading.{tailHasFreq};
+ghost use lib.Dec.{eqb};
+ghost use lib.ListN.{length, take, drop};
+ghost use Rattle.format.specs.Model.{member};
+ghost use Rattle.format.specs.Reading.{keepsFreqs};
 ghost use Rattle.segment_postings.specs.Private.{FoundThere, BlockLoaded};
-ghost use Rattle.segment_postings.specs.Taken.{Takes, ValuesTaken, DocsAsked, FreqsAsked, fullTaken, tailTaken};
+ghost use Rattle.segment_postings.specs.Taken.{ValuesTaken, DocsAsked, askedFreqs, outcome, fullTaken, tailTaken};
 
-// What was taken of a block, beside its values: how many they are, the form they have, whether its numbers were all there, and
+// What was taken of a block, beside its values: how many they are, whether its numbers were all there, what their form rules out, and
 // whether its bytes end where they should.
 pub struct Taken {
     pub full: bool,
     pub n: usize,
-    pub strict: bool,
     pub last_doc: u32,
     // Of a tail: whether the numbers of all its ids were there.
     pub docs_there: bool,
-    // Whether frequencies were taken; else each is 1.
-    pub read: bool,
+    // That no difference of ids is 0, which the strict form rules out.
+    pub docs_nonzero: bool,
     // Of a tail: whether the numbers of all its frequencies were there.
     pub freqs_there: bool,
+    // That no frequency is 0: each is 1 where they weren't taken, or form and width rule it out.
+    pub freqs_nonzero: bool,
     // Of a tail: that no bytes are left, or that those that are left aren't asked for.
     pub ended: bool,
+    // Whether the image keeps frequencies.
+    pub kept: bool,
     // Blocks unpacked so far, with this one.
     pub unpacked: usize,
 }
 
-// How many blocks are unpacked, with one more; or the number of the question that was answered no.
+// How many blocks are unpacked, with one more, and whether the image keeps frequencies; or the number of the question that was answered no.
 pub(crate) enum Loaded {
-    Unpacked(usize),
+    Unpacked { unpacked: usize, kept: bool },
     Refused(u8),
 }
 
 // What was taken of a full block: its numbers are packed, so that none is missing.
-fn full_taken(info: BlockInfo, read: bool, unpacked: usize) -> Taken
-    ensures { λ r. ⌜ r ≡ fullTaken info read unpacked ⌝ }
+fn full_taken(info: BlockInfo, freqs_nonzero: bool, kept: bool, unpacked: usize) -> Taken
+    ensures { λ r. ⌜ r ≡ fullTaken info «freqs_nonzero» kept unpacked ⌝ }
 {
     Taken {
         full: true,
         n: 128,
-        strict: info.strict,
         last_doc: info.last_doc,
         docs_there: true,
-        read,
+        docs_nonzero: info.strict,
         freqs_there: true,
+        freqs_nonzero,
         ended: true,
+        kept,
         unpacked,
     }
 }
@@ -76,31 +82,26 @@ fn full_taken(info: BlockInfo, read: bool, unpacked: usize) -> Taken
 fn tail_taken(
     n: usize,
     docs_there: bool,
-    read: bool,
     freqs_there: bool,
+    freqs_nonzero: bool,
     ended: bool,
+    kept: bool,
     unpacked: usize,
 ) -> Taken
-    ensures { λ r. ⌜ r ≡ tailTaken n «docs_there» read «freqs_there» ended unpacked ⌝ }
+    ensures { λ r. ⌜ r ≡ tailTaken n «docs_there» «freqs_there» «freqs_nonzero» ended kept unpacked ⌝ }
 {
     Taken {
         full: false,
         n,
-        strict: false,
         last_doc: TERMINATED,
         docs_there,
-        read,
+        docs_nonzero: false,
         freqs_there,
+        freqs_nonzero,
         ended,
+        kept,
         unpacked,
     }
-}
-
-// Whether frequencies are kept and requested.
-fn wants_freqs(option: IndexRecordOption, requested: u8) -> bool
-    ensures { λ r. ⌜ r ≡ and (hasFreq option) (ltb 0 requested) ⌝ }
-{
-    has_freq(option) && 0 < requested
 }
 
 // Whether no byte is left from place `at` on.
@@ -110,23 +111,21 @@ fn none_left(image: &[u8], at: usize) -> bool
     image.len() <= at
 }
 
-// Whether a tail of n documents has frequencies, which would begin at place `at`.
-fn tail_has_freq(option: IndexRecordOption, alone: bool, n: usize, image: &[u8], at: usize) -> bool
-    ensures { λ r. ⌜ r ≡ tailHasFreq option alone n (drop at (now (image .entry))) ⌝ }
+// Whether an image keeps frequencies; those of a tail of n documents would begin at place `at`.
+fn keeps_freqs(option: IndexRecordOption, alone: bool, n: usize, image: &[u8], at: usize) -> bool
+    ensures { λ r. ⌜ r ≡ keepsFreqs option alone n (drop at (now (image .entry))) ⌝ }
 {
     if !has_freq(option) {
         return false;
     }
-    if n == 0 {
-        return false;
-    }
-    if alone {
+    if alone && 0 < n {
         return !none_left(image, at);
     }
     true
 }
 
-// Takes the values of a block out of an image, and counts it. No other function does either.
+// Takes the values of a block out of an image, and counts it. No other function does either. Ids are left as differences, frequencies as
+// they are; a block that isn't there leaves in the arrays what it may.
 pub(crate) fn take_values(
     image: &[u8],
     term: Term,
@@ -136,7 +135,7 @@ pub(crate) fn take_values(
     docs: &mut [u32; 128],
     freqs: &mut [u32; 128],
 ) -> Taken
-    requires { ⌜ Takes term (now image) found unpacked (now docs) (now freqs) ⌝ }
+    requires { ⌜ FoundThere term (now image) found × (unpacked + 1 < 2 ^ 64) ⌝ }
     ensures { λ r. ⌜ ValuesTaken term layout (now (image .entry)) found unpacked (now (docs .exit)) (now (freqs .exit)) r ⌝ }
 {
     let at = found.at;
@@ -145,43 +144,53 @@ pub(crate) fn take_values(
     let counted = unpacked + 1;
     if found.block < blocks {
         let info = found.info;
-        unpack(&image[at..], info.doc_width, docs);
-        if !wants_freqs(option, term.requested) {
-            return full_taken(info, false, counted);
+        let more = reduction(info.strict);
+        unpack(&image[at..], info.doc_width, more, docs);
+        if !info.strict {
+            first_as_difference(docs, found.least);
+        }
+        let kept = has_freq(option);
+        if !kept || term.requested == 0 {
+            *freqs = [1; 128];
+            return full_taken(info, true, kept, counted);
         }
         let behind = at + compressed_block_size(info.doc_width);
-        unpack(&image[behind..], info.freq_width, freqs);
-        return full_taken(info, true, counted);
+        unpack(&image[behind..], info.freq_width, more, freqs);
+        return full_taken(info, info.strict && info.freq_width < 32, kept, counted);
     }
     let n = term.count as usize % COMPRESSION_BLOCK_SIZE;
-    let mut ids = *docs;
+    let mut ids = [TERMINATED; 128];
+    *freqs = [1; 128];
     let Next::At(behind) = uncompress_unsorted(image, at, &mut ids[..n]) else {
-        return tail_taken(n, false, false, true, true, counted);
+        return tail_taken(n, false, true, true, true, false, counted);
     };
+    first_as_difference(&mut ids[..n], found.least);
     *docs = ids;
-    if !tail_has_freq(option, blocks == 0, n, image, behind) {
-        return tail_taken(n, true, false, true, none_left(image, behind), counted);
+    let kept = keeps_freqs(option, blocks == 0, n, image, behind);
+    if !kept || n == 0 {
+        return tail_taken(n, true, true, true, none_left(image, behind), kept, counted);
     }
     if term.requested == 0 {
-        return tail_taken(n, true, false, true, true, counted);
+        return tail_taken(n, true, true, true, true, kept, counted);
     }
-    let mut counts = *freqs;
+    let mut counts = [1; 128];
     let Next::At(end) = uncompress_unsorted(image, behind, &mut counts[..n]) else {
-        return tail_taken(n, true, true, false, true, counted);
+        return tail_taken(n, true, false, true, true, kept, counted);
     };
     *freqs = counts;
-    tail_taken(n, true, true, true, none_left(image, end), counted)
+    tail_taken(n, true, true, false, none_left(image, end), kept, counted)
 }
 
-// Questions 8 and 6 of a block's ids, which then stand in the place of their values: 0, or the number of the question that was
+// Questions 8 and 6 of a block's ids, which then stand in the place of their differences: 0, or the number of the question that was
 // answered no.
 fn ask_docs(taken: Taken, least: u32, docs: &mut [u32; 128]) -> u8
+    requires { ⌜ ((taken .«docs_nonzero» ≡ true → member 0 (take (taken .n) (now docs)) ≡ false)) ⌝ }
     ensures { λ r. ⌜ DocsAsked taken least (now (docs .entry)) (now (docs .exit)) r ⌝ }
 {
     if !taken.docs_there {
         return NUMBER_BROKEN;
     }
-    let Restored::Rising(last) = restore_docs(docs, taken.n, taken.strict, least) else {
+    let Restored::Rising(last) = restore_docs(docs, taken.n, taken.docs_nonzero, least) else {
         return DOCS_NOT_RISING;
     };
     if taken.full && last != taken.last_doc {
@@ -191,19 +200,20 @@ fn ask_docs(taken: Taken, least: u32, docs: &mut [u32; 128]) -> u8
 }
 
 // Questions 8, 7 and 9 of its frequencies.
-fn ask_freqs(taken: Taken, freqs: &mut [u32; 128]) -> u8
-    ensures { λ r. ⌜ FreqsAsked taken (now (freqs .entry)) (now (freqs .exit)) r ⌝ }
+fn ask_freqs(taken: Taken, freqs: &[u32; 128]) -> u8
+    requires { ⌜ ((taken .«freqs_nonzero» ≡ true → member 0 (take (taken .n) (now freqs)) ≡ false)) ⌝ }
+    ensures { λ r. ⌜ askedFreqs taken (now (freqs .entry)) ≡ outcome r (take (taken .n) (now (freqs .entry))) ⌝ }
 {
     if !taken.freqs_there {
         return NUMBER_BROKEN;
     }
-    if taken.read && !restore_freqs(freqs, taken.n, taken.strict) {
+    if !taken.freqs_nonzero && has_zero(freqs, taken.n) {
         return FREQ_OUT_OF_RANGE;
     }
     if taken.ended { 0 } else { BYTES_LEFT }
 }
 
-// Unpacks the block that was found into two lent arrays, and asks questions 6 to 9. A refusal leaves the arrays as they were.
+// Unpacks the block that was found into two lent arrays, and asks questions 6 to 9. What a refusal leaves in the arrays isn't told.
 pub(crate) fn load_block(
     image: &[u8],
     term: Term,
@@ -214,21 +224,19 @@ pub(crate) fn load_block(
     freqs: &mut [u32; 128],
 ) -> Loaded
     requires { ⌜ FoundThere term (now image) found × (unpacked + 1 < 2 ^ 64) ⌝ }
-    ensures { λ r. ⌜ BlockLoaded term layout (now (image .entry)) found unpacked
-        (now (docs .entry)) (now (freqs .entry)) (now (docs .exit)) (now (freqs .exit)) r ⌝ }
+    ensures { λ r. ⌜ BlockLoaded term layout (now (image .entry)) found unpacked (now (docs .exit)) (now (freqs .exit)) r ⌝ }
 {
-    let mut ids = [TERMINATED; 128];
-    let mut counts = [1; 128];
-    let taken = take_values(image, term, layout, found, unpacked, &mut ids, &mut counts);
-    let refusal = ask_docs(taken, found.least, &mut ids);
+    let taken = take_values(image, term, layout, found, unpacked, docs, freqs);
+    let refusal = ask_docs(taken, found.least, docs);
     if refusal != 0 {
         return Loaded::Refused(refusal);
     }
-    let refusal = ask_freqs(taken, &mut counts);
+    let refusal = ask_freqs(taken, freqs);
     if refusal != 0 {
         return Loaded::Refused(refusal);
     }
-    *docs = ids;
-    *freqs = counts;
-    Loaded::Unpacked(taken.unpacked)
+    Loaded::Unpacked {
+        unpacked: taken.unpacked,
+        kept: taken.kept,
+    }
 }

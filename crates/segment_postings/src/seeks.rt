@@ -8,7 +8,7 @@ use crate::SegmentPostings;
 use crate::Value;
 use crate::core::at_end;
 use crate::core::in_bounds;
-use crate::core::leave;
+use crate::core::leave_whole;
 use crate::core::open_in;
 use crate::core::shown_at;
 use crate::layout::full_blocks;
@@ -78,7 +78,7 @@ fn seek_behind(
     if full_blocks(term.count) <= held.block {
         return Reached::Refused(STATE_BROKEN);
     }
-    match leave(held, image, term, target, docs, freqs) {
+    match leave_whole(held, image, term, target, docs, freqs) {
         Reached::At(landed) => Reached::At(at_place(landed, search_block(docs, target))),
         Reached::Refused(n) => Reached::Refused(n),
     }

@@ -16,81 +16,44 @@ use format::TERMINATED;
 use format::Term;
 use skip::block_size;
 ghost use mathlib.Core.Path.{_≡_};
-ghost use mathlib.Core.Bool.{_&&_ as and};
-ghost use Prim.Native.Nat.{_+_};
-ghost use lib.Dec.{leb};
 ghost use Rattle.format.specs.Basics.{ok};
 ghost use Rattle.format.specs.Layout as layouts;
 ghost use Rattle.format.specs.Reading.{reading, soundness};
-ghost use Rattle.format.specs.Values as values;
-ghost use Rattle.segment_postings.specs.Taken.{leastBehind, endsBefore, freqsRead};
-
-// The id that the value 0 stands for.
-fn origin(strict: bool, least: u32) -> u32
-    ensures { λ r. ⌜ r ≡ values.origin strict least ⌝ }
-{
-    if strict {
-        return least;
-    }
-    if least == 0 { 0 } else { least - 1 }
-}
-
-// The least id that may come behind the one that a value stands for; 0 where that one is out of order: question 6.
-fn least_behind(strict: bool, least: u32, value: u32) -> u32
-    ensures { λ r. ⌜ r ≡ leastBehind strict least value ⌝ }
-{
-    let id = origin(strict, least) as u64 + value as u64;
-    if id < least as u64 {
-        return 0;
-    }
-    if TERMINATED as u64 <= id {
-        return 0;
-    }
-    id as u32 + 1
-}
-
-// Whether the frequency that a value stands for is in range: question 7.
-fn in_range(strict: bool, value: u32) -> bool
-    ensures { λ r. ⌜ r ≡ and (leb 1 (value + values.reduction strict)) (leb (value + values.reduction strict) 4294967295) ⌝ }
-{
-    if strict {
-        value < 4294967295
-    } else {
-        0 < value
-    }
-}
+ghost use Rattle.segment_postings.specs.Taken.{endsBefore, freqsToAsk};
 
 // Whether the ids of a full block end on its entry's last id, with `least` the least id that may come behind them: question 6.
-fn ends_right(taken: Taken, least: u32) -> bool
+fn ends_right(taken: Taken, least: u64) -> bool
     ensures { λ r. ⌜ r ≡ endsBefore (taken .full) (taken .«last_doc») least ⌝ }
 {
     if taken.full {
-        return least as u64 == taken.last_doc as u64 + 1;
+        return least == taken.last_doc as u64 + 1;
     }
     true
 }
 
-// How many frequencies were read.
-fn freqs_of(taken: Taken) -> usize
-    ensures { λ r. ⌜ r ≡ freqsRead taken ⌝ }
+// How many frequencies are still to be asked for 0.
+fn freqs_to_ask(taken: Taken) -> usize
+    ensures { λ r. ⌜ r ≡ freqsToAsk taken ⌝ }
 {
-    if taken.read { taken.n } else { 0 }
+    if taken.freqs_nonzero { 0 } else { taken.n }
 }
 
 // Walks over the blocks, by labelled loops over the blocks and the places of each, as document 01 asks: the first question that is
-// answered no ends the whole walk, from inside a block's places too.
+// answered no ends the whole walk, from inside a block's places too. `least` is one more than the id before; 64 bits hold any sum.
 fn walk(image: &[u8], term: Term, layout: Layout) -> u8
     requires { ⌜ layouts.layout term (now image) ≡ ok layout ⌝ }
     ensures { λ r. ⌜ r ≡ reading term (now (image .entry)) .refusal ⌝ }
 {
+    let mut docs = [0; 128];
+    let mut freqs = [0; 128];
     let mut block = 0;
     let mut at = layout.postings;
-    let mut least = 0;
+    let mut least: u64 = 0;
     'blocks: loop {
         let from = Start {
             block,
             at,
-            least,
+            least: least as u32,
             entries: block,
             unpacked: block,
         };
@@ -98,15 +61,17 @@ fn walk(image: &[u8], term: Term, layout: Layout) -> u8
             Search::To(found) => found,
             Search::Refused(number) => break 'blocks number,
         };
-        let mut docs = [TERMINATED; 128];
-        let mut freqs = [1; 128];
         let taken = take_values(image, term, layout, found, block, &mut docs, &mut freqs);
         if !taken.docs_there {
             break 'blocks NUMBER_BROKEN;
         }
         'ids: for i in 0..taken.n {
-            least = least_behind(taken.strict, least, docs[i]);
-            if least == 0 {
+            let difference = docs[i];
+            if difference == 0 {
+                break 'blocks DOCS_NOT_RISING;
+            }
+            least += difference as u64;
+            if (TERMINATED as u64) < least {
                 break 'blocks DOCS_NOT_RISING;
             }
         }
@@ -116,8 +81,8 @@ fn walk(image: &[u8], term: Term, layout: Layout) -> u8
         if !taken.freqs_there {
             break 'blocks NUMBER_BROKEN;
         }
-        'counts: for i in 0..freqs_of(taken) {
-            if !in_range(taken.strict, freqs[i]) {
+        'counts: for i in 0..freqs_to_ask(taken) {
+            if freqs[i] == 0 {
                 break 'blocks FREQ_OUT_OF_RANGE;
             }
         }

@@ -2,7 +2,7 @@
 -- Assumes nothing.
 use mathlib.Core.Path.{_≡_, refl, sym, ap, subst, _∙_}
 use mathlib.Core.List.{List}
-use mathlib.Core.Bool.{true, false}
+use mathlib.Core.Bool.{Bool, true, false}
 use mathlib.Core.Logic.{⊎-elim}
 use Prim.Native.Nat.{ℕ, _+_, _-_, _*_, _/_, _≤_, _<_}
 use native.Mathlib.Nat.{eq-or-lt-of-le}
@@ -19,7 +19,7 @@ use Rattle.format.specs.SkipEntry.{blockSize}
 use Rattle.format.specs.Layout.{layout, fullBlocks, skipBytes}
 use Rattle.format.specs.Reading.{Block}
 use Rattle.format.proofs.Choice.{choose-elim}
-use Rattle.format.proofs.Outcome.{ok-same, andThen-ok}
+use Rattle.format.proofs.Outcome.{ok-same, refused≢ok, andThen-ok}
 use Rattle.segment_postings.specs.declared.find.Found.{Found}
 use Rattle.segment_postings.specs.declared.find.Start.{Start}
 use Rattle.segment_postings.specs.declared.Held.{Held}
@@ -35,22 +35,23 @@ use Rattle.segment_postings.specs.declared.Reached.the-variants as reach
 use Rattle.segment_postings.specs.Landing.{firstStart, findBlock, loadBlock, holding, landing}
 use Rattle.segment_postings.specs.Cursor.{position, inBounds, opening, atPlace, startsInside, startBehind, leaving, stepping, answerAt, answering, moved}
 use Rattle.segment_postings.specs.Calls.{cursorOf, heldOf, reached, Reaches}
-use Rattle.segment_postings.specs.Private.{laid, searched, counted, loaded, FindsFrom, BlockLoaded}
+use Rattle.segment_postings.specs.Private.{laid, searched, counted, loaded, FindsFrom, BlockLoaded, Lands}
 use Rattle.segment_postings.proofs.core.Question16.{Bounded, bounded}
 use Rattle.segment_postings.proofs.layout.SplitParts.{laid-out}
 use Rattle.segment_postings.proofs.Laws.CursorTurns.{landing-is, opening-is}
 
 -- ---- what an answer tells of its outcome
 
-counted-unpacked : (unpacked : ℕ) (o : Outcome Block) {n : ℕ} → counted unpacked o ≡ loaded-as.Unpacked n → (b : Block) × (o ≡ ok b) × (n ≡ unpacked + 1)
+counted-unpacked : (unpacked : ℕ) (kept : Bool) (o : Outcome Block) {n : ℕ} {k : Bool} → counted unpacked kept o ≡ loaded-as.Unpacked n k
+    → (b : Block) × (o ≡ ok b) × (n ≡ unpacked + 1)
 unfolding counted
-counted-unpacked unpacked (ok b) e = (b, refl, cc)
-counted-unpacked unpacked (refused m) e = absurd (let z : _≡_ {A = ℕ} 0 1 = cc in omega arith)
+counted-unpacked unpacked kept (ok b) e = (b, refl, cc)
+counted-unpacked unpacked kept (refused m) e = absurd (let z : _≡_ {A = ℕ} 0 1 = cc in omega arith)
 
-counted-refused : (unpacked : ℕ) (o : Outcome Block) {n : ℕ} → counted unpacked o ≡ loaded-as.Refused n → o ≡ refused n
+counted-refused : (unpacked : ℕ) (kept : Bool) (o : Outcome Block) {n : ℕ} → counted unpacked kept o ≡ loaded-as.Refused n → o ≡ refused n
 unfolding counted
-counted-refused unpacked (ok b) e = absurd (let z : _≡_ {A = ℕ} 0 1 = cc in omega arith)
-counted-refused unpacked (refused m) e = cc
+counted-refused unpacked kept (ok b) e = absurd (let z : _≡_ {A = ℕ} 0 1 = cc in omega arith)
+counted-refused unpacked kept (refused m) e = cc
 
 pub searched-to : (o : Outcome Found) {f : Found} → searched o ≡ search-as.To f → o ≡ ok f
 unfolding searched
@@ -85,24 +86,52 @@ first f size unpacked = record {
   entries = f .entries;
 }
 
-module _ {t : Term} {l : Layout} {bs : List ℕ} {f : Found} {unpacked : ℕ} {docs freqs docs′ freqs′ : List ℕ} {r : Loaded} where
-  pub unpacked-there : BlockLoaded t l bs f unpacked docs freqs docs′ freqs′ r → {n size : ℕ} → r ≡ loaded-as.Unpacked n → size ≡ blockSize (f .info)
-      → Reaches (loaded t l bs f unpacked) docs freqs docs′ freqs′ (reached-as.At (first f size n))
-  unfolding loaded orBefore andThen holding reached heldOf first
-  unpacked-there b e s =
-      let o = counted-unpacked unpacked (loadBlock t l bs f) (sym (b .answer) ∙ e) in
-      record {
-        answer = rw (o .1, ← (o .2), ← s);
-        docs-after = rw (o .1) (rw (o .1) at (b .docs-after));
-        freqs-after = rw (o .1) (rw (o .1) at (b .freqs-after));
-      }
+-- arrays that a caller may lose
+pub lands-as : {o o′ : Outcome SegmentPostings} {docs freqs : List ℕ} {r : Reached} → o ≡ o′ → Lands o′ docs freqs r → Lands o docs freqs r
+lands-as {docs = docs} {freqs = freqs} {r = r} e h = subst (λ (o : Outcome SegmentPostings). Lands o docs freqs r) (sym e) h
 
-  pub unpacked-refused : BlockLoaded t l bs f unpacked docs freqs docs′ freqs′ r → {n : ℕ} → r ≡ loaded-as.Refused n
-      → Reaches (loaded t l bs f unpacked) docs freqs docs′ freqs′ (reached-as.Refused n)
-  unfolding loaded orBefore andThen reached
-  unpacked-refused b e =
-      let o = counted-refused unpacked (loadBlock t l bs f) (sym (b .answer) ∙ e) in
-      record { answer = rw o; docs-after = rw o (rw o at (b .docs-after)); freqs-after = rw o (rw o at (b .freqs-after)) }
+pub none-lands : {o : Outcome SegmentPostings} {n : ℕ} (docs freqs : List ℕ) → o ≡ refused n → Lands o docs freqs (reached-as.Refused n)
+unfolding reached
+none-lands docs freqs e =
+    lands-as e (record { answer = refl; docs-are = λ c no. absurd (refused≢ok no); freqs-are = λ c no. absurd (refused≢ok no) })
+
+one-lands : {o : Outcome SegmentPostings} (c : SegmentPostings) {docs freqs : List ℕ} → o ≡ ok c → docs ≡ c .docs → freqs ≡ c .freqs
+    → Lands o docs freqs (reached-as.At (heldOf c))
+unfolding reached
+one-lands c e d f =
+    lands-as e
+    (record {
+      answer = refl;
+      docs-are = λ x same. d ∙ ap (λ (y : SegmentPostings). y .docs) (ok-same same);
+      freqs-are = λ x same. f ∙ ap (λ (y : SegmentPostings). y .freqs) (ok-same same);
+    })
+
+first-is : (f : Found) (unpacked : ℕ) (block : Block) {n size : ℕ} → size ≡ blockSize (f .info) → n ≡ unpacked + 1
+    → heldOf (holding f unpacked block) ≡ first f size n
+unfolding holding heldOf first
+first-is f unpacked block s e = rw (s, e)
+
+module _ (t : Term) (l : Layout) (bs : List ℕ) (f : Found) (unpacked : ℕ) where
+  loaded-ok : {b : Block} → loadBlock t l bs f ≡ ok b → loaded t l bs f unpacked ≡ ok (holding f unpacked b)
+  unfolding loaded andThen
+  loaded-ok e = rw e
+
+  loaded-refused : {n : ℕ} → loadBlock t l bs f ≡ refused n → loaded t l bs f unpacked ≡ refused n
+  unfolding loaded andThen
+  loaded-refused e = rw e
+
+module _ {t : Term} {l : Layout} {bs : List ℕ} {f : Found} {unpacked : ℕ} {docs freqs : List ℕ} {r : Loaded} where
+  pub unpacked-there : BlockLoaded t l bs f unpacked docs freqs r → {n size : ℕ} {kept : Bool} → r ≡ loaded-as.Unpacked n kept → size ≡ blockSize (f .info)
+      → Lands (loaded t l bs f unpacked) docs freqs (reached-as.At (first f size n))
+  unfolding holding
+  unpacked-there b e s =
+      let o = counted-unpacked unpacked _ (loadBlock t l bs f) (sym (b .answer) ∙ e) in
+      subst (λ (h : Held). Lands (loaded t l bs f unpacked) docs freqs (reached-as.At h)) (first-is f unpacked (o .0) s (o .2))
+      (one-lands (holding f unpacked (o .0)) (loaded-ok t l bs f unpacked (o .1)) (b .docs-are (o .0) (o .1)) (b .freqs-are (o .0) (o .1)))
+
+  pub unpacked-refused : BlockLoaded t l bs f unpacked docs freqs r → {n : ℕ} → r ≡ loaded-as.Refused n
+      → Lands (loaded t l bs f unpacked) docs freqs (reached-as.Refused n)
+  unpacked-refused b e = none-lands docs freqs (loaded-refused t l bs f unpacked (counted-refused unpacked _ (loadBlock t l bs f) (sym (b .answer) ∙ e)))
 
 -- ---- the two in a row
 
@@ -209,24 +238,47 @@ module _ (c : SegmentPostings) (bs : List ℕ) (t : Term) where
 
 -- ---- where a call that came somewhere has come to
 
-pub reached-at : {o : Outcome SegmentPostings} {docs freqs docs′ freqs′ : List ℕ} {r : Reached} {h : Held}
-    → Reaches o docs freqs docs′ freqs′ r → r ≡ reached-as.At h → o ≡ ok (cursorOf h docs′ freqs′)
-unfolding reached orBefore heldOf cursorOf
-reached-at {o} {docs} {freqs} {docs′} {freqs′} {r} {h} k e = go o (sym (k .answer) ∙ e) (k .docs-after) (k .freqs-after)
+pub landed-at : {o : Outcome SegmentPostings} {docs freqs : List ℕ} {r : Reached} {h : Held}
+    → Lands o docs freqs r → r ≡ reached-as.At h → o ≡ ok (cursorOf h docs freqs)
+unfolding reached heldOf cursorOf
+landed-at {o} {docs} {freqs} {r} {h} k e = go o (sym (k .answer) ∙ e) (k .docs-are) (k .freqs-are)
   where
-    go : (o : Outcome SegmentPostings) → reached o ≡ reached-as.At h → docs′ ≡ orBefore (λ c. c .docs) o docs → freqs′ ≡ orBefore (λ c. c .freqs) o freqs
-        → o ≡ ok (cursorOf h docs′ freqs′)
-    go (ok c) a d f = let s : heldOf c ≡ h = cc in rw (d, f) (ap (λ (x : Held). ok (cursorOf x (c .docs) (c .freqs))) s)
+    go : (o : Outcome SegmentPostings) → reached o ≡ reached-as.At h → ((c : SegmentPostings) → o ≡ ok c → docs ≡ c .docs)
+        → ((c : SegmentPostings) → o ≡ ok c → freqs ≡ c .freqs) → o ≡ ok (cursorOf h docs freqs)
+    go (ok c) a d f = let s : heldOf c ≡ h = cc in rw (d c refl, f c refl) (ap (λ (x : Held). ok (cursorOf x (c .docs) (c .freqs))) s)
     go (refused n) a d f = absurd (let z : _≡_ {A = ℕ} 0 1 = cc in omega arith)
 
-pub reached-nowhere : {o : Outcome SegmentPostings} {docs freqs docs′ freqs′ : List ℕ} {r : Reached} {n : ℕ}
-    → Reaches o docs freqs docs′ freqs′ r → r ≡ reached-as.Refused n → o ≡ refused n
+pub landed-nowhere : {o : Outcome SegmentPostings} {docs freqs : List ℕ} {r : Reached} {n : ℕ} → Lands o docs freqs r → r ≡ reached-as.Refused n → o ≡ refused n
 unfolding reached
-reached-nowhere {o} {n = n} k e = go o (sym (k .answer) ∙ e)
+landed-nowhere {o} {n = n} k e = go o (sym (k .answer) ∙ e)
   where
     go : (o : Outcome SegmentPostings) → reached o ≡ reached-as.Refused n → o ≡ refused n
     go (ok c) a = absurd (let z : _≡_ {A = ℕ} 0 1 = cc in omega arith)
     go (refused m) a = cc
+
+-- a call that leaves its arrays in a refusal tells no less than one that may lose them
+reaches-lands : {o : Outcome SegmentPostings} {docs freqs docs′ freqs′ : List ℕ} {r : Reached} → Reaches o docs freqs docs′ freqs′ r → Lands o docs′ freqs′ r
+unfolding orBefore
+reaches-lands k = record { answer = k .answer; docs-are = λ c e. rw e at (k .docs-after); freqs-are = λ c e. rw e at (k .freqs-after) }
+
+pub reached-at : {o : Outcome SegmentPostings} {docs freqs docs′ freqs′ : List ℕ} {r : Reached} {h : Held}
+    → Reaches o docs freqs docs′ freqs′ r → r ≡ reached-as.At h → o ≡ ok (cursorOf h docs′ freqs′)
+reached-at k = landed-at (reaches-lands k)
+
+pub reached-nowhere : {o : Outcome SegmentPostings} {docs freqs docs′ freqs′ : List ℕ} {r : Reached} {n : ℕ}
+    → Reaches o docs freqs docs′ freqs′ r → r ≡ reached-as.Refused n → o ≡ refused n
+reached-nowhere k = landed-nowhere (reaches-lands k)
+
+-- two arrays of one's own are stored where a call on them came somewhere, so that a refusal leaves those that are lent
+pub stored-reached : {o : Outcome SegmentPostings} {docs freqs ids counts : List ℕ} {r : Reached} {h : Held} → Lands o ids counts r → r ≡ reached-as.At h
+    → Reaches o docs freqs ids counts r
+unfolding orBefore cursorOf
+stored-reached k e = let at = landed-at k e in record { answer = k .answer; docs-after = rw at; freqs-after = rw at }
+
+pub left-reached : {o : Outcome SegmentPostings} {docs freqs ids counts : List ℕ} {r : Reached} {n : ℕ} → Lands o ids counts r → r ≡ reached-as.Refused n
+    → Reaches o docs freqs docs freqs r
+unfolding orBefore
+left-reached k e = let no = landed-nowhere k e in record { answer = k .answer; docs-after = rw no; freqs-after = rw no }
 
 -- a cursor taken apart
 pub same-cursor : (c : SegmentPostings) {h : Held} → h ≡ heldOf c → cursorOf h (c .docs) (c .freqs) ≡ c

@@ -1,38 +1,46 @@
--- The questions asked of a block's values in turn are those that the definitions ask of the block. Of a full block the numbers are
--- always there and its bytes end where its entry says; of a tail each case is one of the definition's.
+-- The questions asked of a block's values in turn are those that the definitions ask of the block. Ids by their differences are the ids of
+-- the values, and question 6 is the same (`Differ`); a frequency that is out of range is 0 in its place of 32 bits, and no other is. Of a
+-- full block the numbers are always there and its bytes end where its entry says; of a tail each case is one of the definition's.
 -- Assumes nothing.
-use mathlib.Core.Path.{_≡_, refl, sym, _∙_}
-use mathlib.Core.Bool.{Bool, true, false, not, and-true, and-false, _&&_ as and, _||_ as or}
-use mathlib.Core.List.{List, _++_, append-nil}
-use Prim.Native.Nat.{ℕ, _+_, _*_, _≤_, _<_}
-use native.Mathlib.Nat.{le-of-eq}
+use mathlib.Core.Path.{_≡_, refl, sym, ap, ap₂, _∙_}
+use mathlib.Core.Bool.{Bool, true, false, not, and-true, and-false, _&&_ as and}
+use mathlib.Core.List.{List, [], _∷_, _++_, map, append-nil}
+use Prim.Native.Nat.{ℕ, zero, suc, _+_, _*_, _%_, _^_, _≤_, _<_}
+use native.Mathlib.Nat.{le-of-eq, add-zero, mod-eq-of-lt, pow-le-pow-right}
 use native.Mathlib.Omega.{arith}
 use lib.Dec.{eqb, ltb}
-use lib.ListN.{length, take, drop, replicate, length-append, length-take, length-drop, drop-of-length-le}
+use lib.ListN.{length, take, drop, replicate, length-append, length-take, length-drop, length-map, drop-of-length-le}
 use lib.Seq.{take-all, take-at, drop-at}
-use borrow.Author.Tests.{lt-ltb, le-ltb}
+use borrow.Author.Tests.{lt-ltb, le-ltb, ne-eqb, ltb-true}
 use Rattle.format.specs.declared.BlockInfo.{BlockInfo}
 use Rattle.format.specs.declared.IndexRecordOption.{IndexRecordOption}
 use Rattle.format.specs.declared.Layout.{Layout}
 use Rattle.format.specs.declared.Term.{Term}
-use Rattle.format.specs.Basics.{Outcome, ok, refused, andThen, ask, choose}
+use Rattle.format.specs.Basics.{Outcome, ok, refused, andThen, ask, choose, TERMINATED, AllBelow}
+use Rattle.format.specs.Model.{member}
 use Rattle.format.specs.Refusal.{docsNotRising, freqOutOfRange, numberBroken, bytesLeft}
 use Rattle.format.specs.Bitpacking.{unpack}
 use Rattle.format.specs.SkipEntry.{hasFreq}
-use Rattle.format.specs.Values.{ids, rising, countable}
+use Rattle.format.specs.Values.{ids, rising, restored, reduction, countable}
 use Rattle.format.specs.declared.Next.the-variants.{At, Refused}
 use Rattle.format.specs.Vint.{Numbers, tailNumbers}
 use Rattle.format.specs.Layout.{fullBlocks, tailLength}
 use Rattle.format.specs.Reading.{fullFreqs, fullBlock, ended, tailFreqs, tailHasFreq, tailBlock}
-use Rattle.format.proofs.Bitpacking.{unpack-length}
+use Rattle.format.proofs.Choice.{choose-elim}
+use Rattle.format.proofs.Lists.{allBelow-le}
+use Rattle.format.proofs.Bitpacking.{unpack-length, unpack-below}
 use Rattle.format.proofs.Opened.{fullDocs-is, fullFreqs-unread, fullFreqs-read, fullBlock-is, numbers-is, tailFreqs-read, tailBlock-is}
-use Rattle.format.proofs.ValuesCode.{restored-not-strict}
+use Rattle.format.proofs.Values.{length-restored}
 use Rattle.format.proofs.Vints.{numbers-used}
+use Rattle.bitpacking.specs.Packed.{withMore}
+use Rattle.compression.specs.Restored.{idsBehind, inOrder, firstDifference, asDifferences}
+use Rattle.compression.proofs.Differences.{Differ, differ-strict, differ-plain}
+use Rattle.compression.proofs.Frequencies.{countable-kept, countable-wrapped, countable-nonzero}
 use Rattle.vint.specs.Numbers.{behind, filled}
 use Rattle.segment_postings.specs.declared.find.Found.{Found}
 use Rattle.segment_postings.specs.declared.load.Taken.{Taken}
 use Rattle.segment_postings.specs.Landing.{loadBlock}
-use Rattle.segment_postings.specs.Taken.{fullTaken, tailTaken, endsOn, takenFreqs, askedFreqs, askedDocs, asked}
+use Rattle.segment_postings.specs.Taken.{fullTaken, tailTaken, endsOn, askedFreqs, askedDocs, asked}
 
 -- ---- the definitions, opened by one turn
 
@@ -46,54 +54,56 @@ then-asked false b m n x f = refl
 
 pub asked-is : (k : Taken) (least : ℕ) (docs freqs : List ℕ)
     → asked k least docs freqs
-    ≡ (let ds : List ℕ = ids (k .strict) least (take (k .n) docs) in
+    ≡ (let vs : List ℕ = take (k .n) docs in
     ask (k .«docs_there») numberBroken λ _.
-    ask (and (rising least ds) (endsOn (k .full) (k .«last_doc») ds)) docsNotRising λ _.
+    ask (and (inOrder least vs) (endsOn (k .full) (k .«last_doc») (idsBehind least vs))) docsNotRising λ _.
     andThen (askedFreqs k freqs) λ fs.
-    ok (record { docs = ds; freqs = fs; last = k .«last_doc» }))
+    ok (record { docs = idsBehind least vs; freqs = fs; last = k .«last_doc» }))
 unfolding asked askedDocs
 asked-is k least docs freqs =
-    let ds : List ℕ = ids (k .strict) least (take (k .n) docs) in
-    then-asked (k .«docs_there») (and (rising least ds) (endsOn (k .full) (k .«last_doc») ds)) numberBroken docsNotRising ds
+    let vs : List ℕ = take (k .n) docs in
+    then-asked (k .«docs_there») (and (inOrder least vs) (endsOn (k .full) (k .«last_doc») (idsBehind least vs))) numberBroken docsNotRising
+    (idsBehind least vs)
     (λ ds. andThen (askedFreqs k freqs) λ fs. ok (record { docs = ds; freqs = fs; last = k .«last_doc» }))
 
 -- ---- the questions in turn, each where those before it were answered yes
 
 module _ (k : Taken) (least : ℕ) (docs : List ℕ) where
-  abbrev ds : List ℕ
-  ds = ids (k .strict) least (take (k .n) docs)
+  abbrev vs : List ℕ
+  vs = take (k .n) docs
 
   pub docs-broken : k .«docs_there» ≡ false → askedDocs k least docs ≡ refused numberBroken
   unfolding askedDocs ask
   docs-broken h = rw h
 
   module _ (there : k .«docs_there» ≡ true) where
-    pub docs-fallen : rising least ds ≡ false → askedDocs k least docs ≡ refused docsNotRising
+    pub docs-fallen : inOrder least vs ≡ false → askedDocs k least docs ≡ refused docsNotRising
     unfolding askedDocs ask
     docs-fallen h = rw (there, h)
 
-    pub docs-end-wrong : endsOn (k .full) (k .«last_doc») ds ≡ false → askedDocs k least docs ≡ refused docsNotRising
+    pub docs-end-wrong : endsOn (k .full) (k .«last_doc») (idsBehind least vs) ≡ false → askedDocs k least docs ≡ refused docsNotRising
     unfolding askedDocs ask
-    docs-end-wrong h = rw (there, h, and-false (rising least ds))
+    docs-end-wrong h = rw (there, h, and-false (inOrder least vs))
 
-    pub docs-right : rising least ds ≡ true → endsOn (k .full) (k .«last_doc») ds ≡ true → askedDocs k least docs ≡ ok ds
+    pub docs-right : inOrder least vs ≡ true → endsOn (k .full) (k .«last_doc») (idsBehind least vs) ≡ true
+        → askedDocs k least docs ≡ ok (idsBehind least vs)
     unfolding askedDocs ask
     docs-right rises ends = rw (there, rises, ends)
 
 module _ (k : Taken) (freqs : List ℕ) where
   abbrev fs : List ℕ
-  fs = takenFreqs (k .read) (k .strict) (take (k .n) freqs)
+  fs = take (k .n) freqs
 
   pub freqs-broken : k .«freqs_there» ≡ false → askedFreqs k freqs ≡ refused numberBroken
   unfolding askedFreqs ask
   freqs-broken h = rw h
 
   module _ (there : k .«freqs_there» ≡ true) where
-    pub freqs-wrong : or (not (k .read)) (countable fs) ≡ false → askedFreqs k freqs ≡ refused freqOutOfRange
+    pub freqs-wrong : member 0 fs ≡ true → askedFreqs k freqs ≡ refused freqOutOfRange
     unfolding askedFreqs ask
     freqs-wrong h = rw (there, h)
 
-    module _ (counts : or (not (k .read)) (countable fs) ≡ true) where
+    module _ (counts : member 0 fs ≡ false) where
       pub freqs-not-last : k .ended ≡ false → askedFreqs k freqs ≡ refused bytesLeft
       unfolding askedFreqs ask
       freqs-not-last h = rw (there, counts, h)
@@ -102,71 +112,190 @@ module _ (k : Taken) (freqs : List ℕ) where
       unfolding askedFreqs ask
       freqs-right h = rw (there, counts, h)
 
+-- no 1 is 0
+pub ones-nonzero : (n : ℕ) → member 0 (replicate n 1) ≡ false
+unfolding member
+ones-nonzero zero = refl
+ones-nonzero (suc n) = ones-nonzero n
+
 -- frequencies that weren't read: question 9 alone is left
-askedFreqs-unread : (k : Taken) (freqs : List ℕ) → k .read ≡ false → k .«freqs_there» ≡ true → take (k .n) freqs ≡ replicate (k .n) 1
+askedFreqs-unread : (k : Taken) (freqs : List ℕ) → k .«freqs_there» ≡ true → take (k .n) freqs ≡ replicate (k .n) 1
     → askedFreqs k freqs ≡ ask (k .ended) bytesLeft λ _. ok (replicate (k .n) 1)
-unfolding askedFreqs takenFreqs ask
-askedFreqs-unread k freqs unread there ones = rw (there, unread, ones)
+unfolding askedFreqs ask
+askedFreqs-unread k freqs there ones = rw (there, ones, ones-nonzero (k .n))
+
+-- ---- what differences and places of 32 bits have in the place of values
+
+-- ids by their differences: question 6 and what follows it
+docs-same : {B : Type 0} {strict : Bool} {least : ℕ} {vs ds : List ℕ} → Differ strict least vs ds → (full : Bool) (last n : ℕ) (g : List ℕ → Outcome B)
+    → (ask (and (inOrder least ds) (endsOn full last (idsBehind least ds))) n λ _. g (idsBehind least ds))
+    ≡ (ask (and (rising least (ids strict least vs)) (endsOn full last (ids strict least vs))) n λ _. g (ids strict least vs))
+unfolding ask
+docs-same {B} {strict} {least} {vs} {ds} d full last n g = go (inOrder least ds) refl
+  where
+    go : (t : Bool) → inOrder least ds ≡ t
+        → (ask (and (inOrder least ds) (endsOn full last (idsBehind least ds))) n λ _. g (idsBehind least ds))
+        ≡ (ask (and (rising least (ids strict least vs)) (endsOn full last (ids strict least vs))) n λ _. g (ids strict least vs))
+    go true e = rw (d .same e, ← d .question)
+    go false e = rw (← d .question, e)
+
+-- frequencies in places of 32 bits: question 7 and what follows it
+freqs-same : {B : Type 0} (fs : List ℕ) → AllBelow (2 ^ 32 + 1) fs → (n : ℕ) (g : List ℕ → Outcome B)
+    → (ask (not (member 0 (map (λ f. f % 2 ^ 32) fs))) n λ _. g (map (λ f. f % 2 ^ 32) fs)) ≡ (ask (countable fs) n λ _. g fs)
+unfolding ask
+freqs-same {B} fs small n g = go (countable fs) refl
+  where
+    go : (t : Bool) → countable fs ≡ t
+        → (ask (not (member 0 (map (λ f. f % 2 ^ 32) fs))) n λ _. g (map (λ f. f % 2 ^ 32) fs)) ≡ (ask (countable fs) n λ _. g fs)
+    go true e = rw (countable-wrapped fs small, countable-kept fs e)
+    go false e = rw (countable-wrapped fs small, e)
+
+-- ---- values with what the strict form left out
+
+with-more : (strict : Bool) (vs : List ℕ) → map (withMore (reduction strict)) vs ≡ map (λ f. f % 2 ^ 32) (restored strict vs)
+unfolding withMore restored
+with-more strict [] = refl
+with-more strict (v ∷ vs) = ap (λ (ks : List ℕ). ((v + reduction strict) % 2 ^ 32) ∷ ks) (with-more strict vs)
+
+-- .. of less than 32 bits are whole
+pub more-small : (strict : Bool) (vs : List ℕ) → AllBelow (2 ^ 31) vs → map (withMore (reduction strict)) vs ≡ restored strict vs
+unfolding withMore restored reduction
+more-small strict [] a = refl
+more-small true (v ∷ vs) a = ap₂ (λ (k : ℕ) (ks : List ℕ). k ∷ ks) (mod-eq-of-lt (omega (arith, a .0))) (more-small true vs (a .1))
+more-small false (v ∷ vs) a = ap₂ (λ (k : ℕ) (ks : List ℕ). k ∷ ks) (mod-eq-of-lt (omega (arith, a .0))) (more-small false vs (a .1))
+
+-- .. and none of them is 0 in the strict form
+pub strict-nonzero : (vs : List ℕ) → member 0 (restored true vs) ≡ false
+unfolding restored reduction member
+strict-nonzero [] = refl
+strict-nonzero (v ∷ vs) = rw (ne-eqb 0 (v + 1) (omega arith)) (strict-nonzero vs)
+
+-- .. and are the values themselves in the non-strict form
+pub restored-plain : (vs : List ℕ) → restored false vs ≡ vs
+unfolding restored reduction
+restored-plain [] = refl
+restored-plain (v ∷ vs) = ap₂ (λ (k : ℕ) (ks : List ℕ). k ∷ ks) (add-zero v) (restored-plain vs)
+
+restored-below : (strict : Bool) (vs : List ℕ) → AllBelow (2 ^ 32) vs → AllBelow (2 ^ 32 + 1) (restored strict vs)
+unfolding restored reduction
+restored-below strict [] a = tt
+restored-below true (v ∷ vs) a = (omega (arith, a .0), restored-below true vs (a .1))
+restored-below false (v ∷ vs) a = (omega (arith, a .0), restored-below false vs (a .1))
 
 -- ---- a full block
 
-module _ (e : BlockInfo) (unpacked : ℕ) (bs : List ℕ) where
-  all : (w : ℕ) (bytes : List ℕ) → take 128 (unpack w bytes) ≡ unpack w bytes
-  all w bytes = take-all 128 (unpack w bytes) (le-of-eq (unpack-length w bytes))
+-- the differences that are taken of a full block's values
+unfoldable pub fullDifferences : Bool → ℕ → List ℕ → List ℕ
+fullDifferences true least vs = restored true vs
+fullDifferences false least vs = asDifferences least vs
 
-  pub full-unread : askedFreqs (fullTaken e false unpacked) (replicate 128 1) ≡ fullFreqs false e bs
+differ-full : (strict : Bool) (least : ℕ) (vs : List ℕ) → Differ strict least vs (fullDifferences strict least vs)
+unfolding fullDifferences
+differ-full true least vs = differ-strict least vs
+differ-full false least vs = differ-plain least vs
+
+pub length-asDifferences : (least : ℕ) (vs : List ℕ) → length (asDifferences least vs) ≡ length vs
+unfolding asDifferences
+length-asDifferences least [] = refl
+length-asDifferences zero (v ∷ vs) = refl
+length-asDifferences (suc least) (v ∷ vs) = refl
+
+pub length-fullDifferences : (strict : Bool) (least : ℕ) (vs : List ℕ) → length (fullDifferences strict least vs) ≡ length vs
+unfolding fullDifferences
+length-fullDifferences true least vs = length-restored true vs
+length-fullDifferences false least vs = length-asDifferences least vs
+
+-- they are numbers of 32 bits
+first-below : (v : ℕ) → firstDifference v < 2 ^ 32
+unfolding firstDifference
+first-below v = choose-elim (λ d. d < 2 ^ 32) (ltb v TERMINATED) _ _ (λ h. omega (arith, ltb-true v TERMINATED h)) (λ _. omega arith)
+
+pub asDifferences-below : (least : ℕ) (vs : List ℕ) → AllBelow (2 ^ 32) vs → AllBelow (2 ^ 32) (asDifferences least vs)
+unfolding asDifferences
+asDifferences-below least [] a = tt
+asDifferences-below zero (v ∷ vs) a = (first-below v, a .1)
+asDifferences-below (suc least) (v ∷ vs) a = a
+
+strict-below : (vs : List ℕ) → AllBelow (2 ^ 31) vs → AllBelow (2 ^ 32) (restored true vs)
+unfolding restored reduction
+strict-below [] a = tt
+strict-below (v ∷ vs) a = (omega (arith, a .0), strict-below vs (a .1))
+
+pub fullDifferences-below : (strict : Bool) (least : ℕ) (vs : List ℕ) → AllBelow (2 ^ 31) vs → AllBelow (2 ^ 32) (fullDifferences strict least vs)
+unfolding fullDifferences
+fullDifferences-below true least vs a = strict-below vs a
+fullDifferences-below false least vs a = asDifferences-below least vs (allBelow-le vs (omega arith) a)
+
+module _ (e : BlockInfo) (kept : Bool) (unpacked : ℕ) (bs : List ℕ) where
+  all : (xs : List ℕ) → length xs ≡ 128 → take 128 xs ≡ xs
+  all xs many = take-all 128 xs (le-of-eq many)
+
+  pub full-unread : (nonzero : Bool) → askedFreqs (fullTaken e nonzero kept unpacked) (replicate 128 1) ≡ fullFreqs false e bs
   unfolding ask
-  full-unread = askedFreqs-unread (fullTaken e false unpacked) (replicate 128 1) refl refl refl ∙ sym (fullFreqs-unread e bs)
+  full-unread nonzero = askedFreqs-unread (fullTaken e nonzero kept unpacked) (replicate 128 1) refl refl ∙ sym (fullFreqs-unread e bs)
 
-  pub full-read : askedFreqs (fullTaken e true unpacked) (unpack (e .«freq_width») (drop (16 * e .«doc_width») bs)) ≡ fullFreqs true e bs
-  unfolding askedFreqs ask takenFreqs
-  full-read = rw (fullFreqs-read e bs, all (e .«freq_width») (drop (16 * e .«doc_width») bs))
+  pub full-read : (nonzero : Bool) → e .«freq_width» ≤ 32
+      → askedFreqs (fullTaken e nonzero kept unpacked) (map (withMore (reduction (e .strict))) (unpack (e .«freq_width») (drop (16 * e .«doc_width») bs)))
+      ≡ fullFreqs true e bs
+  unfolding askedFreqs ask
+  full-read nonzero narrow =
+      let vs : List ℕ = unpack (e .«freq_width») (drop (16 * e .«doc_width») bs) in
+      let below : AllBelow (2 ^ 32) vs = allBelow-le vs (pow-le-pow-right {n = 2} (omega arith) {i = e .«freq_width»} {j = 32} narrow) (unpack-below _ _) in
+      rw (all (map (withMore (reduction (e .strict))) vs) (length-map vs _ ∙ unpack-length _ _), with-more (e .strict) vs, fullFreqs-read e bs)
+      (freqs-same (restored (e .strict) vs) (restored-below (e .strict) vs below) freqOutOfRange ok)
 
-  pub asked-full : (least : ℕ) (read : Bool) (freqs : List ℕ) → askedFreqs (fullTaken e read unpacked) freqs ≡ fullFreqs read e bs
-      → asked (fullTaken e read unpacked) least (unpack (e .«doc_width») bs) freqs ≡ fullBlock read least e bs
+  pub asked-full : (least : ℕ) (nonzero read : Bool) (freqs : List ℕ) → askedFreqs (fullTaken e nonzero kept unpacked) freqs ≡ fullFreqs read e bs
+      → asked (fullTaken e nonzero kept unpacked) least (fullDifferences (e .strict) least (unpack (e .«doc_width») bs)) freqs ≡ fullBlock read least e bs
   unfolding endsOn ask
-  asked-full least read freqs h = rw (asked-is, all (e .«doc_width») bs, h, fullBlock-is, fullDocs-is)
+  asked-full least nonzero read freqs h =
+      let vs : List ℕ = unpack (e .«doc_width») bs in
+      rw (asked-is, all (fullDifferences (e .strict) least vs) (length-fullDifferences (e .strict) least vs ∙ unpack-length _ _), h, fullBlock-is, fullDocs-is)
+      (docs-same (differ-full (e .strict) least vs) true (e .«last_doc») docsNotRising
+      (λ ds. andThen (fullFreqs read e bs) λ fs. ok (record { docs = ds; freqs = fs; last = e .«last_doc» })))
 
 -- ---- a tail
 
-restored-plain : (n : ℕ) (freqs values : List ℕ) → take n freqs ≡ values → takenFreqs true false (take n freqs) ≡ values
-unfolding takenFreqs
-restored-plain n freqs values is = restored-not-strict (take n freqs) ∙ is
-
 module _ (n unpacked : ℕ) where
-  pub tail-none : (wanted : Bool) (rest freqs : List ℕ) → take n freqs ≡ replicate n 1
-      → askedFreqs (tailTaken n true false true (eqb (length rest) 0) unpacked) freqs ≡ tailFreqs false wanted n rest
+  pub tail-none : (wanted nonzero kept : Bool) (rest freqs : List ℕ) → take n freqs ≡ replicate n 1
+      → askedFreqs (tailTaken n true true nonzero (eqb (length rest) 0) kept unpacked) freqs ≡ tailFreqs false wanted n rest
   unfolding tailFreqs
-  tail-none wanted rest freqs ones = askedFreqs-unread (tailTaken n true false true (eqb (length rest) 0) unpacked) freqs refl refl ones
+  tail-none wanted nonzero kept rest freqs ones =
+      askedFreqs-unread (tailTaken n true true nonzero (eqb (length rest) 0) kept unpacked) freqs refl ones
 
-  pub tail-unwanted : (rest freqs : List ℕ) → take n freqs ≡ replicate n 1
-      → askedFreqs (tailTaken n true false true true unpacked) freqs ≡ tailFreqs true false n rest
+  pub tail-unwanted : (nonzero kept : Bool) (rest freqs : List ℕ) → take n freqs ≡ replicate n 1
+      → askedFreqs (tailTaken n true true nonzero true kept unpacked) freqs ≡ tailFreqs true false n rest
   unfolding tailFreqs
-  tail-unwanted rest freqs ones = askedFreqs-unread (tailTaken n true false true true unpacked) freqs refl refl ones
+  tail-unwanted nonzero kept rest freqs ones = askedFreqs-unread (tailTaken n true true nonzero true kept unpacked) freqs refl ones
 
-  pub tail-short : (rest freqs : List ℕ) → tailNumbers n rest .complete ≡ false
-      → askedFreqs (tailTaken n true true false true unpacked) freqs ≡ tailFreqs true true n rest
+  pub tail-short : (nonzero kept : Bool) (rest freqs : List ℕ) → tailNumbers n rest .complete ≡ false
+      → askedFreqs (tailTaken n true false nonzero true kept unpacked) freqs ≡ tailFreqs true true n rest
   unfolding askedFreqs ask andThen
-  tail-short rest freqs short = rw (tailFreqs-read, numbers-is, short)
+  tail-short nonzero kept rest freqs short = rw (tailFreqs-read, numbers-is, short)
 
-  pub tail-read : (rest freqs : List ℕ) → tailNumbers n rest .complete ≡ true → take n freqs ≡ tailNumbers n rest .values
-      → askedFreqs (tailTaken n true true true (eqb (length (drop (tailNumbers n rest .used) rest)) 0) unpacked) freqs ≡ tailFreqs true true n rest
+  pub tail-read : (nonzero kept : Bool) (rest freqs : List ℕ) → tailNumbers n rest .complete ≡ true → take n freqs ≡ tailNumbers n rest .values
+      → askedFreqs (tailTaken n true true nonzero (eqb (length (drop (tailNumbers n rest .used) rest)) 0) kept unpacked) freqs ≡ tailFreqs true true n rest
   unfolding askedFreqs ended ask andThen
-  tail-read rest freqs there is = rw (tailFreqs-read, numbers-is, there, restored-plain n freqs _ is)
+  tail-read nonzero kept rest freqs there is =
+      rw (tailFreqs-read, numbers-is, there, is, countable-nonzero (tailNumbers n rest .values) (numbers-used n rest .values-below))
 
   module _ (option : IndexRecordOption) (wanted alone : Bool) (least : ℕ) (bs docs freqs : List ℕ) where
-    pub asked-short : (read freqs-there end : Bool) → tailNumbers n bs .complete ≡ false
-        → asked (tailTaken n false read freqs-there end unpacked) least docs freqs ≡ tailBlock option wanted alone n least bs
+    pub asked-short : (freqs-there nonzero end kept : Bool) → tailNumbers n bs .complete ≡ false
+        → asked (tailTaken n false freqs-there nonzero end kept unpacked) least docs freqs ≡ tailBlock option wanted alone n least bs
     unfolding ask andThen
-    asked-short read freqs-there end short = rw (asked-is, tailBlock-is, numbers-is, short)
+    asked-short freqs-there nonzero end kept short = rw (asked-is, tailBlock-is, numbers-is, short)
 
-    pub asked-tail : (read freqs-there end : Bool) → tailNumbers n bs .complete ≡ true → take n docs ≡ tailNumbers n bs .values
+    pub asked-tail : (freqs-there nonzero end kept : Bool) → tailNumbers n bs .complete ≡ true
+        → take n docs ≡ asDifferences least (tailNumbers n bs .values)
         → (let rest : List ℕ = drop (tailNumbers n bs .used) bs in
-        askedFreqs (tailTaken n true read freqs-there end unpacked) freqs ≡ tailFreqs (tailHasFreq option alone n rest) wanted n rest)
-        → asked (tailTaken n true read freqs-there end unpacked) least docs freqs ≡ tailBlock option wanted alone n least bs
+        askedFreqs (tailTaken n true freqs-there nonzero end kept unpacked) freqs ≡ tailFreqs (tailHasFreq option alone n rest) wanted n rest)
+        → asked (tailTaken n true freqs-there nonzero end kept unpacked) least docs freqs ≡ tailBlock option wanted alone n least bs
     unfolding ask andThen endsOn
-    asked-tail read freqs-there end there is h =
-        rw (asked-is, tailBlock-is, numbers-is, there, is, h, and-true (rising least (ids false least (tailNumbers n bs .values))))
+    asked-tail freqs-there nonzero end kept there is h =
+        let vs : List ℕ = tailNumbers n bs .values in
+        let rest : List ℕ = drop (tailNumbers n bs .used) bs in
+        rw (asked-is, tailBlock-is, numbers-is, there, is, h, ← and-true (rising least (ids false least vs)))
+        (docs-same (differ-plain least vs) false TERMINATED docsNotRising
+        (λ ds. andThen (tailFreqs (tailHasFreq option alone n rest) wanted n rest) λ fs. ok (record { docs = ds; freqs = fs; last = TERMINATED })))
 
 -- ---- a block that was found
 

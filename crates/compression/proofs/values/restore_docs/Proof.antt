@@ -1,97 +1,133 @@
--- `compression::values::restore_docs` meets its contract. `restore_from` leaves the differences, and `sum` their sums, which are the
--- ids. If all differences pass question 7 they are whole in their places, so the last sum is the last id, and ids rise where it lies
--- below TERMINATED. If one doesn't, ids don't rise.
+-- `compression::values::restore_docs` meets its contract. Where a difference is 0 the ids aren't in order. Where none is, `sum` leaves the
+-- ids: behind an id they are the sums of the differences on top of it, and a list's first id is one less than its difference. They are
+-- in order if the last lies below TERMINATED, and then each is whole in its place.
 -- Assumes nothing.
 use mathlib.Core.Path.{_≡_, refl, ap, _∙_, sym}
-use mathlib.Core.Bool.{Bool, true, false, _&&_ as and}
-use mathlib.Core.List.{List, [], _∷_, _++_, append-assoc}
-use Prim.Native.Nat.{ℕ, zero, suc, _-_, _≤_, _<_, min}
+use mathlib.Core.Bool.{Bool, true, false, false≢true}
+use mathlib.Core.List.{List, [], _∷_, _++_}
+use mathlib.Core.Logic.{⊎-elim}
+use Prim.Native.Nat.{ℕ, zero, suc, _-_, _+_, _≤_, _<_, min}
+use native.Mathlib.Nat.{eq-zero-or-pos}
+use native.Mathlib.Numerals.{add-one}
 use native.Mathlib.Omega.{arith}
 use denote.Ref.{now}
-use lib.Dec.{ltb}
-use lib.ListN.{length, take, drop, length-append, length-take, length-map}
-use lib.Seq.{length-slice, take-take, take-at, drop-at}
+use lib.ListN.{length, getD, take, drop, set, length-set}
+use lib.Seq.{length-take-le, drop-set-lt}
+use borrow.Author.Needs.{needs}
+use borrow.Author.Tests.{not-false}
 use Rattle.format.specs.Basics.{choose, lastOf, TERMINATED}
-use Rattle.format.specs.Values.{idsFrom, ids, rising, restored}
-use Rattle.format.proofs.ValuesCode.{differences, ids-low, ids-whole, rising-countable}
+use Rattle.format.specs.Model.{member}
+use Rattle.format.specs.Values.{idsFrom}
 use Rattle.compression.specs.declared.values.Restored.{Restored}
 use Rattle.compression.specs.declared.values.Restored.the-variants.{Rising, NotRising}
-use Rattle.compression.specs.Restored.{inPlace, risen, ending, DocsRestored, RestoredFrom, Summed}
-use Rattle.compression.proofs.InPlace.{take-clamped, inPlace-clamped}
-use borrow.Author.Needs.{needs}
+use Rattle.compression.specs.Restored.{inOrder, idsBehind, inPlace, risen, ending, DocsRestored, Summed}
+use Rattle.compression.proofs.Differences.{plain-same, ids-first, behind-first, in-order-last, zero-out-of-order, ids-kept}
+use Rattle.compression.proofs.InPlace.{clamped}
 use Rattle.compression.proofs.values.restore_docs.Statement.{statement}
 use Rattle.compression.proofs.values.restore_docs.Tie as tie
 
--- of some values the last id is the same, whatever stands before them
-last-any : (y z : ℕ) (strict : Bool) (least m : ℕ) (l : List ℕ) → 0 < m → m ≤ length l
-    → lastOf y (ids strict least (take m l)) ≡ lastOf z (ids strict least (take m l))
-unfolding ids idsFrom lastOf
-last-any y z strict least zero l h k = absurd (omega arith)
-last-any y z strict least (suc m) [] h k = absurd (omega arith)
-last-any y z strict least (suc m) (v ∷ l) h k = refl
+-- of some ids the last is the same, whatever stands before them
+last-any : (y z least : ℕ) (ds : List ℕ) → 0 < length ds → lastOf y (idsBehind least ds) ≡ lastOf z (idsBehind least ds)
+unfolding idsBehind lastOf
+last-any y z least [] h = absurd (omega arith)
+last-any y z least (d ∷ ds) h = refl
 
-module _ (strict : Bool) (least m : ℕ) (entry between : List ℕ) (apart : Bool) (some : 0 < m) (fits : m ≤ length entry)
-    (from : RestoredFrom strict (1 - least) m entry between apart) where
-  -- what `restore_from` leaves of the first m values, and behind them
-  between-is : between ≡ differences strict least (take m entry) ++ drop m entry
-  unfolding inPlace
-  between-is = from .left ∙ rw (take-take (1 - least) m entry (omega arith), append-assoc)
+-- the sums on top of the id before are the ids
+sums-behind : (least : ℕ) (ds : List ℕ) → 0 < least → idsFrom 0 (least - 1) ds ≡ idsBehind least ds
+sums-behind least ds h = let one : least - 1 + 1 ≡ least = omega arith in rw one at (sym (plain-same (least - 1) ds))
 
-  length-differences : length (differences strict least (take m entry)) ≡ m
-  unfolding restored
-  length-differences = simp (length-append, length-map, length-take, length-slice) (omega arith)
+-- .. and those of a list, whose first id is one less than its difference
+sums-first : (m : ℕ) (entry : List ℕ) → 0 < m → m ≤ length entry → member 0 (take m entry) ≡ false
+    → idsFrom 0 0 (take m (set entry 0 (getD entry 0 0 - 1))) ≡ idsBehind 0 (take m entry)
+unfolding member
+sums-first zero entry some fits h = absurd (omega arith)
+sums-first (suc m) [] some fits h = absurd (omega arith)
+sums-first (suc m) (zero ∷ entry) some fits h = absurd (false≢true (sym h))
+sums-first (suc m) (suc d ∷ entry) some fits h =
+    let less : suc d - 1 ≡ d = omega arith in
+    rw (behind-first (suc d) (take m entry), less, ids-first d (take m entry))
+    (ap (λ (ds : List ℕ). d ∷ ds) (rw add-one at (sym (plain-same d (take m entry)))))
 
-  front : take m between ≡ differences strict least (take m entry)
-  front = rw between-is (take-at _ _ m length-differences)
+-- what `sum` is handed: the differences, a list's first one less
+module _ (least m : ℕ) (entry between : List ℕ) (some : 0 < m) (fits : m ≤ length entry) (nonzero : member 0 (take m entry) ≡ false)
+    (first : least ≡ 0 → between ≡ set entry 0 (getD entry 0 0 - 1)) (others : 0 < least → between ≡ entry) where
+  sums : idsFrom 0 (least - 1) (take m between) ≡ idsBehind least (take m entry)
+  sums = ⊎-elim (λ z. rw (first z, z) (sums-first m entry some fits nonzero)) (λ pos. rw (others pos) (sums-behind least (take m entry) pos)) (eq-zero-or-pos least)
 
-  back : drop m between ≡ drop m entry
-  back = rw between-is (drop-at (differences strict least (take m entry)) (drop m entry) m length-differences)
+  behind : drop m between ≡ drop m entry
+  behind = ⊎-elim (λ z. rw (first z) (drop-set-lt m entry 0 (getD entry 0 0 - 1) some)) (λ pos. rw (others pos)) (eq-zero-or-pos least)
 
-  module _ (exit : List ℕ) (last : ℕ) (summed : Summed (least - 1) m between exit last) where
-    left : exit ≡ inPlace m (ids strict least (take m entry)) entry
+  module _ (exit : List ℕ) (last : ℕ) (summed : Summed (least - 1) m between exit last) (n : ℕ) (clamps : m ≡ min n (length entry)) where
+    last-is : last ≡ lastOf 0 (idsBehind least (take m entry))
+    last-is = summed .answered ∙ (rw sums (last-any (least - 1) 0 least (take m entry) (rw (length-take-le m entry fits) some)))
+
+    answered : ending last ≡ risen least (take m entry)
+    unfolding ending risen choose
+    answered = rw (last-is, in-order-last 0 least (take m entry) (rw (length-take-le m entry fits) some) nonzero)
+
+    left : inOrder least (take m entry) ≡ true → exit ≡ idsBehind least (take m entry) ++ drop m entry
     unfolding inPlace
-    left = summed .left ∙ rw (front, back, ids-low strict least (take m entry))
+    left h = summed .left ∙ rw (sums, behind, ids-kept least (take m entry) h)
 
-    whole : apart ≡ true → last ≡ lastOf 0 (ids strict least (take m entry))
-    whole h =
-        summed .answered
-        ∙ (rw (front, ids-whole strict least (take m entry) (sym (from .answered) ∙ h)) refl
-        ∙ last-any (least - 1) 0 strict least m entry some fits)
+    pub restored-by : DocsRestored least n entry exit (ending last)
+    restored-by =
+        let c = clamped m n entry clamps in
+        record {
+          answered = rw (c .0) at answered;
+          left = λ h. rw (c .0, c .1) at (left (rw (c .0) h));
+        }
 
-    asked : rising least (ids strict least (take m entry)) ≡ and apart (ltb (lastOf 0 (ids strict least (take m entry))) TERMINATED)
-    asked = rw (from .answered) (rising-countable strict least (take m entry))
-
-    -- n places are all of them where n is larger
-    restored-by : (n : ℕ) → m ≡ min n (length entry) → (answer : Restored)
-        → answer ≡ choose (and apart (ltb last TERMINATED)) (λ _. Rising last) (λ _. NotRising) → DocsRestored strict least n entry exit answer
-    unfolding choose risen
-    restored-by n clamps answer is = record {
-      answered = is ∙ (go apart refl ∙ ap (λ (vs : List ℕ). risen least (ids strict least vs)) (take-clamped m n entry clamps));
-      left = left ∙ inPlace-clamped m n entry clamps (ids strict least);
-    }
-      where
-        go : (t : Bool) → apart ≡ t
-            → choose (and t (ltb last TERMINATED)) (λ _. Rising last) (λ _. NotRising) ≡ risen least (ids strict least (take m entry))
-        go true e = rw (asked, e, ← whole e)
-        go false e = rw (asked, e)
-
-places-requires : tie.Need-places-requires
-places-requires c κs = search needs
+smaller-requires : tie.Need-smaller-requires
+smaller-requires c κs = search needs
 
 returns : tie.Need-returns
-unfolding choose ids idsFrom rising lastOf risen inPlace
-returns c =
+unfolding choose inOrder idsBehind lastOf risen
+returns c known =
     let none : c .before .before .args .n ≡ 0 = omega arith in
-    record { answered = rw none; left = rw none }
+    record { answered = rw none; left = λ _. rw none }
+
+has-zero-requires : tie.Need-has-zero-requires
+has-zero-requires c κs = search needs
+
+returns-2 : tie.Need-returns-2
+unfolding risen choose
+returns-2 c known =
+    let sized = c .before .before .before .before .before .before in
+    let args = sized .before .args in
+    let m : ℕ = sized .smaller .result in
+    let entry : List ℕ = now (args .values) in
+    let some : member 0 (take m entry) ≡ true = sym (c .before .has-zero .ensures) ∙ c .if3 .taken in
+    let out : inOrder (args .least) (take (args .n) entry) ≡ false
+    = zero-out-of-order (args .least) (take (args .n) entry) (rw (clamped m (args .n) entry (omega arith) .0) at some) in
+    record { answered = rw out; left = λ h. absurd (false≢true (sym out ∙ h)) }
+
+slice-read-difference : tie.Need-slice-read-difference
+slice-read-difference c = search needs
 
 difference-requires : tie.Need-difference-requires
 difference-requires c κs = search needs
 
-cast-start : tie.Need-cast-start
-cast-start c = search needs
+slice-write-block : tie.Need-slice-write-block
+slice-write-block c = search needs
 
-restore-from-requires : tie.Need-restore-from-requires
-restore-from-requires c κs = search needs
+-- a list's first difference is made one less, every other is as it was
+module _ (c : tie.Joined4) where
+  abbrev sized : tie.After-smaller
+  sized = c .before .before .before .before
+
+  abbrev entry : List ℕ
+  entry = now (sized .before .args .values)
+
+  first : sized .before .args .least ≡ 0 → c .if4 .block ≡ set entry 0 (getD entry 0 0 - 1)
+  first z = ⊎-elim (λ w. w .3 ∙ ap (set entry 0) (w .2 .ensures)) (λ w. absurd (w .0 .left z)) (c .if4 .came)
+
+  others : 0 < sized .before .args .least → c .if4 .block ≡ entry
+  others some = ⊎-elim (λ w. absurd (omega (arith, w .0 .taken))) (λ w. w .1) (c .if4 .came)
+
+  same-length : length (c .if4 .block) ≡ length entry
+  same-length =
+      ⊎-elim (λ z. ap length (first z) ∙ length-set entry 0 (getD entry 0 0 - 1)) (λ some. ap length (others some))
+      (eq-zero-or-pos (sized .before .args .least))
 
 difference-requires-2 : tie.Need-difference-requires-2
 difference-requires-2 c κs = search needs
@@ -100,48 +136,47 @@ cast-sum : tie.Need-cast-sum
 cast-sum c = search needs
 
 sum-requires : tie.Need-sum-requires
-sum-requires c κs = search needs
+sum-requires c κs = (omega (arith, same-length (c .before)), omega arith, omega arith)
 
 ending-requires : tie.Need-ending-requires
 ending-requires c κs = search needs
 
--- what is known once the differences are summed up, and whether they are apart was tested
-tested : (c : tie.After-sum) (answer : Restored)
-    → let args = c .before .before .before .before .before .before .before .before .args in
-    answer ≡ choose (and (c .before .before .before .restore-from .result) (ltb (c .sum .result) TERMINATED)) (λ _. Rising (c .sum .result)) (λ _. NotRising)
-    → DocsRestored (args .strict) (args .least) (args .n) (now (args .values)) (c .sum .last .0) answer
-tested c answer is =
-    let args = c .before .before .before .before .before .before .before .before .args in
-    let m : ℕ = c .before .before .before .before .before .before .before .places .result in
-    let entry : List ℕ = now (args .values) in
-    let back = c .before .before .before .restore-from in
-    let from : RestoredFrom (args .strict) (1 - args .least) m entry (back .last .0) (back .result)
-    = rw (c .before .before .before .before .before .difference .ensures) at (back .ensures) in
-    let summed : Summed (args .least - 1) m (back .last .0) (c .sum .last .0) (c .sum .result)
-    = rw (c .before .difference2 .ensures) at (c .sum .ensures) in
-    restored-by (args .strict) (args .least) m entry (back .last .0) (back .result) (omega arith) (omega arith) from
-    (c .sum .last .0) (c .sum .result) summed (args .n) (omega arith) answer is
-
-returns-2 : tie.Need-returns-2
-unfolding ending
-returns-2 c = tested (c .before .before) (c .ending .result) (rw (c .before .if2 .taken) (c .ending .ensures))
+-- no difference is 0: the caller knows, or it was tested
+nonzero-known : (c : tie.Joined2)
+    → (let sized = c .before .before .before in
+    let args = sized .before .args in
+    (args .nonzero ≡ true → member 0 (take (args .n) (now (args .values))) ≡ false)
+    → member 0 (take (sized .smaller .result) (now (args .values))) ≡ false)
+nonzero-known c known =
+    let sized = c .before .before .before in
+    let args = sized .before .args in
+    ⊎-elim
+    (λ w. sym (w .2 .ensures) ∙ w .3 .left)
+    (λ w. rw (clamped (sized .smaller .result) (args .n) (now (args .values)) (omega arith) .0) (known (not-false _ (w .left))))
+    (c .if2 .came)
 
 returns-3 : tie.Need-returns-3
-unfolding choose
-returns-3 c = tested (c .before) NotRising (rw (c .if2 .left))
+returns-3 c known =
+    let changed = c .before .before .before in
+    let args = sized changed .before .args in
+    rw (c .ending .ensures)
+    (restored-by (args .least) (sized changed .smaller .result) (entry changed) (changed .if4 .block) (omega arith) (omega arith)
+    (nonzero-known (changed .before) known) (first changed) (others changed) (c .before .sum .last .0) (c .before .sum .result)
+    (rw (c .before .before .difference2 .ensures) at (c .before .sum .ensures)) (args .n) (omega arith))
 
 pub restore-docs-spec : {M : Type 1} → statement M
 restore-docs-spec =
     tie.close
     (tie.spec
-    places-requires
+    smaller-requires
     returns
+    has-zero-requires
+    returns-2
+    slice-read-difference
     difference-requires
-    cast-start
-    restore-from-requires
+    slice-write-block
     difference-requires-2
     cast-sum
     sum-requires
     ending-requires
-    returns-2
     returns-3)

@@ -42,9 +42,9 @@ returns-3 c =
     let e = c .before .before in
     held-reached _ _ _ (stepping-within _ _ _ (in-bounds (e .before .before)) (sym (e .before .at-end .ensures) ∙ e .if2 .left) (c .if3 .taken))
 
-leave-requires : tie.Need-leave-requires
+leave-whole-requires : tie.Need-leave-whole-requires
 unfolding cursorOf
-leave-requires c κs =
+leave-whole-requires c κs =
     let f = c .before .before in
     let e = f .before .before in
     let inside = in-bounds (e .before .before) in
@@ -57,7 +57,7 @@ returns-4 c =
     let e = f .before .before in
     reaches-as
     (stepping-leaves _ _ _ (in-bounds (e .before .before)) (sym (e .before .at-end .ensures) ∙ e .if2 .left) (f .if3 .left))
-    (c .leave .ensures)
+    (c .leave-whole .ensures)
 
 pub advance-in-spec : {M : Type 1} → statement M
 advance-in-spec =
@@ -69,5 +69,5 @@ advance-in-spec =
     returns-2
     add-place
     returns-3
-    leave-requires
+    leave-whole-requires
     returns-4)

@@ -2,7 +2,7 @@
 -- Assumes nothing.
 use mathlib.Core.Path.{sym, _∙_}
 use Rattle.segment_postings.proofs.find.FoundBlock.{found-there}
-use Rattle.segment_postings.proofs.Laws.LandingParts.{searched-to, searched-refused, reaches-as, none-reached, landing-found, landing-refused}
+use Rattle.segment_postings.proofs.Laws.LandingParts.{searched-to, searched-refused, lands-as, none-lands, landing-found, landing-refused}
 use borrow.Author.Needs.{needs}
 use Rattle.segment_postings.proofs.core.land.Statement.{statement}
 use Rattle.segment_postings.proofs.core.land.Tie as tie
@@ -27,13 +27,13 @@ enum-known-n c = search needs
 returns : tie.Need-returns
 returns c =
     let f = c .before .before .before .before in
-    reaches-as
+    lands-as
     (landing-found _ _ _ _ _ (searched-to _ (sym (f .before .before .find-block .ensures) ∙ f .found .given .1)))
     (c .unpack-found .ensures)
 
 returns-2 : tie.Need-returns-2
 returns-2 c =
-    none-reached _ _
+    none-lands _ _
     (landing-refused _ _ _ _ _ (searched-refused _ (sym (c .before .before .before .find-block .ensures) ∙ c .before .n .given .1)))
 
 pub land-spec : {M : Type 1} → statement M

@@ -2,7 +2,8 @@
 -- answered again and the next block begins inside the posting bytes. The cursor's numbers are in bounds, so that no sum wraps.
 -- Assumes nothing.
 use mathlib.Core.Path.{_≡_, sym, _∙_}
-use Prim.Native.Nat.{_+_, _^_, _<_}
+use mathlib.Core.List.{List, []}
+use Prim.Native.Nat.{ℕ, _+_, _^_, _<_}
 use native.Mathlib.Omega.{arith}
 use borrow.Author.Tests.{not-true, not-false}
 use Rattle.format.specs.Basics.{ok}
@@ -10,7 +11,7 @@ use Rattle.format.specs.Layout.{layout}
 use Rattle.segment_postings.specs.Calls.{cursorOf}
 use Rattle.segment_postings.specs.Cursor.{startBehind}
 use Rattle.segment_postings.proofs.core.Question16.{Bounded, bounded}
-use Rattle.segment_postings.proofs.Laws.LandingParts.{laid-at, laid-refused, reaches-as, none-reached, leaving-laid, leaving-early, leaving-refused, leaves-from}
+use Rattle.segment_postings.proofs.Laws.LandingParts.{laid-at, laid-refused, lands-as, none-lands, leaving-laid, leaving-early, leaving-refused, leaves-from}
 use borrow.Author.Needs.{needs}
 use Rattle.segment_postings.proofs.core.leave.Statement.{statement}
 use Rattle.segment_postings.proofs.core.leave.Tie as tie
@@ -21,8 +22,9 @@ lay-out-requires c κs = search needs
 enum-known-layout : tie.Need-enum-known-layout
 enum-known-layout c = search needs
 
-in-bounds : (s : tie.Start) → Bounded (s .args .term) (s .args .image .now) (cursorOf (s .args .held) (s .args .docs .now) (s .args .freqs .now))
-in-bounds s = bounded _ _ _ (s .pre .0)
+-- the arrays don't matter
+in-bounds : (s : tie.Start) → Bounded (s .args .term) (s .args .image .now) (cursorOf (s .args .held) [] [])
+in-bounds s = bounded _ _ _ (s .pre .0 [] [])
 
 few : (s : tie.Start) → s .args .held .unpacked + 1 < 2 ^ 64
 unfolding cursorOf
@@ -33,9 +35,9 @@ unfolding cursorOf
 start-behind-requires c κs = omega (arith, in-bounds (c .before .before .before .before .before))
 
 -- the start behind the held block
-behind : (k : tie.After-start-behind) → let s = k .before .before .before .before .before .before in
-    k .start-behind .result ≡ startBehind (cursorOf (s .args .held) (s .args .docs .now) (s .args .freqs .now))
-behind k = k .start-behind .ensures _ _
+behind : (k : tie.After-start-behind) (ds fs : List ℕ) → let s = k .before .before .before .before .before .before in
+    k .start-behind .result ≡ startBehind (cursorOf (s .args .held) ds fs)
+behind k = k .start-behind .ensures
 
 starts-inside-requires : tie.Need-starts-inside-requires
 starts-inside-requires c κs = search needs
@@ -46,9 +48,9 @@ laid l = laid-at _ (sym (l .before .before .lay-out .ensures) ∙ l .layout .giv
 
 returns : tie.Need-returns
 unfolding cursorOf
-returns c =
+returns c ds fs =
     let k = c .before in
-    none-reached _ _ (leaving-early _ _ _ _ (laid (k .before .before .before)) (rw (behind (k .before)) at (sym (k .starts-inside .ensures) ∙ not-true _ (c .if1 .taken))))
+    none-lands _ _ (leaving-early (cursorOf _ ds fs) _ _ _ (laid (k .before .before .before)) (rw (behind (k .before) ds fs) at (sym (k .starts-inside .ensures) ∙ not-true _ (c .if1 .taken))))
 
 land-requires : tie.Need-land-requires
 unfolding cursorOf
@@ -56,23 +58,23 @@ land-requires c κs =
     let k = c .before .before .before .before in
     let l = k .before .before in
     let s = l .before .before .before .before in
-    rw (behind k) (leaves-from _ _ _ (in-bounds s) (s .pre .1) (laid l), few s)
+    rw (behind k [] []) (leaves-from _ _ _ (in-bounds s) (s .pre .1) (laid l), few s)
 
 enum-known-again : tie.Need-enum-known-again
 enum-known-again c = search needs
 
 returns-2 : tie.Need-returns-2
 unfolding cursorOf
-returns-2 c =
+returns-2 c ds fs =
     let e = c .before .before .before in
     let k = e .before in
-    reaches-as
-    (leaving-laid _ _ _ _ (laid (k .before .before .before)) (rw (behind (k .before)) at (sym (k .starts-inside .ensures) ∙ not-false _ (e .if1 .left))))
-    (rw (behind (k .before)) at (c .land .ensures))
+    lands-as
+    (leaving-laid (cursorOf _ ds fs) _ _ _ (laid (k .before .before .before)) (rw (behind (k .before) ds fs) at (sym (k .starts-inside .ensures) ∙ not-false _ (e .if1 .left))))
+    (rw (behind (k .before) ds fs) at (c .land .ensures))
 
 returns-3 : tie.Need-returns-3
-returns-3 c =
-    none-reached _ _ (leaving-refused _ _ _ _ (laid-refused _ (sym (c .before .before .before .lay-out .ensures) ∙ c .before .again .given .1)))
+returns-3 c ds fs =
+    none-lands _ _ (leaving-refused (cursorOf _ ds fs) _ _ _ (laid-refused _ (sym (c .before .before .before .lay-out .ensures) ∙ c .before .again .given .1)))
 
 pub leave-spec : {M : Type 1} → statement M
 leave-spec =

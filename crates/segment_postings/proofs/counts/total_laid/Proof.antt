@@ -10,7 +10,7 @@ use Rattle.format.specs.Layout.{fullBlocks}
 use Rattle.segment_postings.specs.Calls.{valued}
 use Rattle.segment_postings.proofs.Admission.LandingReads.{BlockHeld}
 use Rattle.segment_postings.proofs.Admission.WalkTurns.{lands-from, turn-held, turn}
-use Rattle.segment_postings.proofs.Laws.LandingParts.{reached-at, reached-nowhere}
+use Rattle.segment_postings.proofs.Laws.LandingParts.{landed-at, landed-nowhere}
 use Rattle.segment_postings.proofs.counts.TotalLoop.{Walked, walked-none, walk-refused, walk-stops, walk-ends, walk-goes-on}
 use borrow.Author.Needs.{needs}
 use Rattle.segment_postings.proofs.counts.total_laid.Statement.{statement}
@@ -56,7 +56,7 @@ held : (c : tie.After-held Inv-loop μ-loop) →
 held c =
     let a = c .before .before in
     let p = a .before .before .before in
-    turn-held _ _ _ (p .loop .inv .walks) (reached-at (a .land .ensures) (c .held .given .1))
+    turn-held _ _ _ (p .loop .inv .walks) (landed-at (a .land .ensures) (c .held .given .1))
 
 slice-aggregate-block-below : tie.Need-slice-aggregate-block-below Inv-loop μ-loop
 slice-aggregate-block-below c = sym (held (c .before .before) .docs-room)
@@ -131,7 +131,7 @@ unfolding valued
 returns-3 c =
     let a = c .before .before .before in
     let p = a .before .before .before in
-    sym (ap (λ (o : Outcome ℕ). valued o) (walk-refused (p .loop .inv) (reached-nowhere (a .land .ensures) (c .before .n .given .1))))
+    sym (ap (λ (o : Outcome ℕ). valued o) (walk-refused (p .loop .inv) (landed-nowhere (a .land .ensures) (c .before .n .given .1))))
 
 pub total-laid-spec : {M : Type 1} → statement M
 total-laid-spec =

@@ -1,22 +1,20 @@
--- `segment_postings::load::ask_docs` meets its contract: `restore_docs` answers whether the ids rise and which is the last, which is
+-- `segment_postings::load::ask_docs` meets its contract: `restore_docs` answers whether the ids are in order and which is the last, which is
 -- compared where the block has an entry.
 -- Assumes nothing.
 use mathlib.Core.Path.{_≡_, refl, sym, _∙_}
 use mathlib.Core.Bool.{Bool, true, false}
-use mathlib.Core.List.{List}
+use mathlib.Core.List.{List, _++_}
 use mathlib.Core.Logic.{⊎-elim}
 use Prim.Native.Nat.{ℕ}
 use native.Mathlib.Omega.{arith}
 use denote.Ref.{now}
 use lib.Dec.{eqb}
-use lib.ListN.{take}
+use lib.ListN.{take, drop}
 use borrow.Author.Needs.{needs}
 use borrow.Author.Tests.{not-true, not-false}
 use Rattle.format.specs.Basics.{choose, lastOf}
-use Rattle.format.specs.Values.{ids, rising}
-use Rattle.format.proofs.ValuesCode.{rising-kept}
 use Rattle.compression.specs.declared.values.Restored.the-variants.{Rising, NotRising}
-use Rattle.compression.specs.Restored.{inPlace, risen}
+use Rattle.compression.specs.Restored.{idsBehind, inOrder, risen, DocsRestored}
 use Rattle.segment_postings.specs.declared.load.Taken.{Taken}
 use Rattle.segment_postings.specs.Taken.{endsOn, outcome, DocsAsked}
 use Rattle.segment_postings.proofs.load.BlockQuestions.{docs-broken, docs-fallen, docs-end-wrong, docs-right}
@@ -24,15 +22,18 @@ use Rattle.segment_postings.proofs.load.ask_docs.Statement.{statement}
 use Rattle.segment_postings.proofs.load.ask_docs.Tie as tie
 
 module _ (k : Taken) (least : ℕ) (docs docs′ : List ℕ) where
+  abbrev vs : List ℕ
+  vs = take (k .n) docs
+
   abbrev ds : List ℕ
-  ds = ids (k .strict) least (take (k .n) docs)
+  ds = idsBehind least vs
 
   broken : k .«docs_there» ≡ false → DocsAsked k least docs docs′ 8
   unfolding outcome
   broken h = record { answer = docs-broken k least docs h; left = λ z. absurd (omega arith) }
 
   module _ (there : k .«docs_there» ≡ true) where
-    fallen : rising least ds ≡ false → DocsAsked k least docs docs′ 6
+    fallen : inOrder least vs ≡ false → DocsAsked k least docs docs′ 6
     unfolding outcome
     fallen h = record { answer = docs-fallen k least docs there h; left = λ z. absurd (omega arith) }
 
@@ -41,10 +42,10 @@ module _ (k : Taken) (least : ℕ) (docs docs′ : List ℕ) where
     unfolding endsOn outcome
     ended-wrong l f h = record { answer = docs-end-wrong k least docs there (rw (f, ← l, h)); left = λ z. absurd (omega arith) }
 
-    module _ (rises : rising least ds ≡ true) (left : docs′ ≡ inPlace (k .n) ds docs) where
+    module _ (rises : inOrder least vs ≡ true) (left : docs′ ≡ ds ++ drop (k .n) docs) where
       right : endsOn (k .full) (k .«last_doc») ds ≡ true → DocsAsked k least docs docs′ 0
-      unfolding outcome inPlace
-      right h = record { answer = docs-right k least docs there rises h; left = λ z. left ∙ rw (rising-kept least ds rises) }
+      unfolding outcome
+      right h = record { answer = docs-right k least docs there rises h; left = λ z. left }
 
       ended-right : {last : ℕ} → last ≡ lastOf 0 ds → k .full ≡ true → eqb last (k .«last_doc») ≡ true → DocsAsked k least docs docs′ 0
       unfolding endsOn
@@ -55,20 +56,21 @@ module _ (k : Taken) (least : ℕ) (docs docs′ : List ℕ) where
       tail-right f = right (rw f)
 
 -- what `restore_docs` says of ids
-module _ (least : ℕ) (ds : List ℕ) where
-  not-rising : NotRising ≡ risen least ds → rising least ds ≡ false
+module _ (least : ℕ) (vs : List ℕ) where
+  not-rising : NotRising ≡ risen least vs → inOrder least vs ≡ false
   unfolding risen choose
-  not-rising e = go (rising least ds) e
+  not-rising e = go (inOrder least vs) e
     where
-      go : (t : Bool) → NotRising ≡ choose t (λ _. Rising (lastOf 0 ds)) (λ _. NotRising) → t ≡ false
+      go : (t : Bool) → NotRising ≡ choose t (λ _. Rising (lastOf 0 (idsBehind least vs))) (λ _. NotRising) → t ≡ false
       go true e = absurd (let z : _≡_ {A = ℕ} 0 1 = cc in omega arith)
       go false e = refl
 
-  is-rising : {last : ℕ} → Rising last ≡ risen least ds → (rising least ds ≡ true) × (last ≡ lastOf 0 ds)
+  is-rising : {last : ℕ} → Rising last ≡ risen least vs → (inOrder least vs ≡ true) × (last ≡ lastOf 0 (idsBehind least vs))
   unfolding risen choose
-  is-rising {last} e = go (rising least ds) e
+  is-rising {last} e = go (inOrder least vs) e
     where
-      go : (t : Bool) → Rising last ≡ choose t (λ _. Rising (lastOf 0 ds)) (λ _. NotRising) → (t ≡ true) × (last ≡ lastOf 0 ds)
+      go : (t : Bool) → Rising last ≡ choose t (λ _. Rising (lastOf 0 (idsBehind least vs))) (λ _. NotRising)
+          → (t ≡ true) × (last ≡ lastOf 0 (idsBehind least vs))
       go true e = (refl, cc)
       go false e = absurd (let z : _≡_ {A = ℕ} 0 1 = cc in omega arith)
 
@@ -88,7 +90,7 @@ returns-2 : tie.Need-returns-2
 returns-2 c =
     let back = c .before .before in
     fallen _ _ _ _ (not-false _ (back .before .before .if1 .left))
-    (not-rising _ _ (sym (c .enum-told .given .1) ∙ back .restore-docs .ensures .answered))
+    (not-rising _ _ (sym (c .enum-told .given .1) ∙ back .restore-docs .ensures (back .before .before .before .before .pre) .answered))
 
 -- the ids rise
 module _ (c : tie.After-known-told) where
@@ -98,10 +100,13 @@ module _ (c : tie.After-known-told) where
   there : start .args .taken .«docs_there» ≡ true
   there = not-false _ (c .before .before .before .before .before .if1 .left)
 
-  rises : let k = start .args .taken in
-      let all = ids (k .strict) (start .args .least) (take (k .n) (now (start .args .docs))) in
-      (rising (start .args .least) all ≡ true) × (c .before .last .given .0 .0 ≡ lastOf 0 all)
-  rises = is-rising _ _ (sym (c .before .last .given .1) ∙ c .before .before .before .restore-docs .ensures .answered)
+  restored : DocsRestored (start .args .least) (start .args .taken .n) (now (start .args .docs)) (c .before .before .before .restore-docs .last .0)
+      (c .before .before .before .restore-docs .result)
+  restored = c .before .before .before .restore-docs .ensures (start .pre)
+
+  rises : let vs = take (start .args .taken .n) (now (start .args .docs)) in
+      (inOrder (start .args .least) vs ≡ true) × (c .before .last .given .0 .0 ≡ lastOf 0 (idsBehind (start .args .least) vs))
+  rises = is-rising _ _ (sym (c .before .last .given .1) ∙ restored .answered)
 
 returns-3 : tie.Need-returns-3
 returns-3 c =
@@ -111,7 +116,7 @@ returns-3 c =
 returns-4 : tie.Need-returns-4
 returns-4 c =
     let told = c .before in
-    let left = told .before .before .before .restore-docs .ensures .left in
+    let left = restored told .left (rises told .0) in
     ⊎-elim
     (λ w. ended-right _ _ _ _ (there told) (rises told .0) left (rises told .1) (w .0 .taken) (not-false _ (w .2 .left)))
     (λ w. tail-right _ _ _ _ (there told) (rises told .0) left (w .left))

@@ -1,4 +1,4 @@
--- `segment_postings::seeks::seek_behind` meets its contract: from a full block, the block that `leave` came to, and what the search
+-- `segment_postings::seeks::seek_behind` meets its contract: from a full block, the block that `leave_whole` came to, and what the search
 -- answers in it.
 -- Assumes nothing.
 use Prim.Native.Nat.{_/_, _<_}
@@ -20,8 +20,8 @@ returns c = none-reached _ _ (behind-tail _ _ _ _ (omega arith))
 full : (c : tie.Else1) → let s = c .before .before .before .before in s .args .held .block < s .args .term .count / 128
 full c = omega arith
 
-leave-requires : tie.Need-leave-requires
-leave-requires c κs = search needs
+leave-whole-requires : tie.Need-leave-whole-requires
+leave-whole-requires c κs = search needs
 
 enum-known-landed : tie.Need-enum-known-landed
 enum-known-landed c = search needs
@@ -41,14 +41,14 @@ returns-2 c =
     let h = c .before .before .before .before in
     let k = h .before .before in
     reaches-as (behind-full _ _ _ _ (full (k .before .before .before)))
-    (then-placed (k .leave .ensures) _ (h .landed .given .1) (c .before .search-block .ensures .0) (c .at-place .ensures _ _))
+    (then-placed (k .leave-whole .ensures) _ (h .landed .given .1) (c .before .search-block .ensures .0) (c .at-place .ensures _ _))
 
 returns-3 : tie.Need-returns-3
 unfolding cursorOf
 returns-3 c =
     let k = c .before .before .before in
     reaches-as (behind-full _ _ _ _ (full (k .before .before .before)))
-    (then-nowhere (k .leave .ensures) _ (c .before .n .given .1))
+    (then-nowhere (k .leave-whole .ensures) _ (c .before .n .given .1))
 
 pub seek-behind-spec : {M : Type 1} → statement M
 seek-behind-spec =
@@ -56,7 +56,7 @@ seek-behind-spec =
     (tie.spec
     full-blocks-requires
     returns
-    leave-requires
+    leave-whole-requires
     enum-known-landed
     search-block-requires
     at-place-requires

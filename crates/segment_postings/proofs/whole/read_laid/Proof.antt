@@ -8,7 +8,7 @@ use native.Mathlib.Omega.{arith}
 use Rattle.format.specs.Layout.{fullBlocks}
 use Rattle.segment_postings.proofs.Admission.LandingReads.{BlockHeld}
 use Rattle.segment_postings.proofs.Admission.WalkTurns.{lands-from, turn-held, turn}
-use Rattle.segment_postings.proofs.Laws.LandingParts.{reached-at, reached-nowhere}
+use Rattle.segment_postings.proofs.Laws.LandingParts.{landed-at, landed-nowhere}
 use Rattle.segment_postings.proofs.whole.ReadLoop.{Copied, copied-none, never-refused, docs-room, freqs-room}
 use Rattle.segment_postings.proofs.whole.ReadLoop.{docs-kept, freqs-kept, copy-goes-on, copy-ends}
 use borrow.Author.Needs.{needs}
@@ -55,7 +55,7 @@ held : (c : tie.After-held Inv-loop μ-loop) →
 held c =
     let a = c .before .before in
     let p = a .before .before .before in
-    turn-held _ _ _ (p .loop .inv .walks) (reached-at (a .land .ensures) (c .held .given .1))
+    turn-held _ _ _ (p .loop .inv .walks) (landed-at (a .land .ensures) (c .held .given .1))
 
 slice-aggregate-put-block : tie.Need-slice-aggregate-put-block Inv-loop μ-loop
 slice-aggregate-put-block c = sym (held (c .before .before) .docs-room)
@@ -135,7 +135,7 @@ enum-told c = search needs
 never : (c : tie.After-enum-told Inv-loop μ-loop) → ⊥
 never c =
     let a = c .before .before in
-    never-refused (a .before .before .before .loop .inv) (reached-nowhere (a .land .ensures) (c .enum-told .given .1))
+    never-refused (a .before .before .before .loop .inv) (landed-nowhere (a .land .ensures) (c .enum-told .given .1))
 
 same-length-3 : tie.Need-same-length-3 Inv-loop μ-loop
 same-length-3 c = absurd (never c)

@@ -1,0 +1,179 @@
+-- Ids by their differences. In the strict form a value is one less than its difference; in the non-strict form it is the difference, but
+-- for a list's first, which is the id. Either way the ids of the differences are the ids of the values, and question 6 is the same
+-- question. Ids are sums of differences, so where no difference is 0 they rise, and the last one says whether all lie below TERMINATED.
+-- Assumes nothing.
+use mathlib.Core.Path.{_≡_, refl, sym, ap, ap₂, _∙_}
+use mathlib.Core.Bool.{Bool, true, false, false≢true, and-true, and-false, _&&_ as and, and-eq-true-iff}
+use mathlib.Core.List.{List, [], _∷_, map}
+use Prim.Native.Nat.{ℕ, zero, suc, _+_, _-_, _%_, _^_, _≤_, _<_}
+use native.Mathlib.Nat.{add-zero, zero-add, add-sub-cancel, zero-lt-suc}
+use native.Mathlib.Numerals.{add-one}
+use native.Mathlib.Omega.{arith}
+use lib.Dec.{leb, ltb, eqb}
+use lib.ListN.{length}
+use borrow.Author.Tests.{le-leb, lt-leb, lt-ltb, le-ltb, leb-true, ltb-true, ltb-false, ne-eqb}
+use Rattle.format.specs.Basics.{choose, lastOf, TERMINATED}
+use Rattle.format.specs.Model.{member}
+use Rattle.format.specs.Values.{idsFrom, ids, restored, rising, reduction, origin}
+use Rattle.format.proofs.Lists.{allBelow-le}
+use Rattle.format.proofs.Values.{rising-below}
+use Rattle.compression.specs.Restored.{idsBehind, inOrder, firstDifference, asDifferences}
+use Rattle.compression.proofs.Frequencies.{kept-below}
+
+pub length-idsBehind : (least : ℕ) (ds : List ℕ) → length (idsBehind least ds) ≡ length ds
+unfolding idsBehind
+length-idsBehind least [] = refl
+length-idsBehind least (d ∷ ds) = ap suc (length-idsBehind (least + d) ds)
+
+-- ---- the differences of values
+
+-- what is known of differences that stand for values: question 6 is the same, and where it is passed the ids are
+pub record Differ (strict : Bool) (least : ℕ) (vs ds : List ℕ) : Type 0 where
+  pub question : inOrder least ds ≡ rising least (ids strict least vs)
+  pub same : inOrder least ds ≡ true → idsBehind least ds ≡ ids strict least vs
+
+-- one below a bound
+below-leb : (a b : ℕ) → leb (a + 1) b ≡ ltb a b
+below-leb a b = go (ltb a b) refl
+  where
+    go : (t : Bool) → ltb a b ≡ t → leb (a + 1) b ≡ t
+    go true e = le-leb (a + 1) b (omega (arith, ltb-true a b e))
+    go false e = lt-leb (a + 1) b (omega (arith, ltb-false a b e))
+
+-- the strict form: one more than the value
+strict-question : (least : ℕ) (vs : List ℕ) → inOrder least (restored true vs) ≡ rising least (idsFrom 1 least vs)
+unfolding inOrder restored reduction rising idsFrom
+strict-question least [] = refl
+strict-question least (v ∷ vs) =
+    let next : least + (v + 1) ≡ least + v + 1 = omega arith in
+    rw (le-leb 1 (v + 1) (omega arith), le-leb least (least + v) (omega arith), next, below-leb, strict-question (least + v + 1) vs)
+
+strict-same : (least : ℕ) (vs : List ℕ) → idsBehind least (restored true vs) ≡ idsFrom 1 least vs
+unfolding idsBehind restored reduction idsFrom
+strict-same least [] = refl
+strict-same least (v ∷ vs) =
+    let next : least + (v + 1) ≡ least + v + 1 = omega arith in
+    let here : least + v + 1 - 1 ≡ least + v = omega arith in
+    rw (next, here) (ap (λ (ds : List ℕ). (least + v) ∷ ds) (strict-same (least + v + 1) vs))
+
+pub differ-strict : (least : ℕ) (vs : List ℕ) → Differ true least vs (restored true vs)
+unfolding ids origin reduction
+differ-strict least vs = record { question = strict-question least vs; same = λ _. strict-same least vs }
+
+-- the non-strict form, behind an id d
+plain-question : (d : ℕ) (vs : List ℕ) → inOrder (d + 1) vs ≡ rising (d + 1) (idsFrom 0 d vs)
+unfolding inOrder rising idsFrom
+plain-question d [] = refl
+plain-question d (zero ∷ vs) = rw (lt-leb (d + 1) (d + 0) (omega arith))
+plain-question d (suc v ∷ vs) =
+    let next : d + 1 + suc v ≡ d + suc v + 1 = omega arith in
+    rw (le-leb 1 (suc v) (omega arith), le-leb (d + 1) (d + suc v) (omega arith), next, below-leb, add-zero, plain-question (d + suc v) vs)
+
+pub plain-same : (d : ℕ) (vs : List ℕ) → idsBehind (d + 1) vs ≡ idsFrom 0 d vs
+unfolding idsBehind idsFrom
+plain-same d [] = refl
+plain-same d (v ∷ vs) =
+    let next : d + 1 + v ≡ d + v + 1 = omega arith in
+    let here : d + v + 1 - 1 ≡ d + v = omega arith in
+    rw (next, here, add-zero) (ap (λ (ds : List ℕ). (d + v) ∷ ds) (plain-same (d + v) vs))
+
+-- a list's first id, whose difference is counted from before 0
+pub ids-first : (v : ℕ) (vs : List ℕ) → idsFrom 0 0 (v ∷ vs) ≡ v ∷ idsFrom 0 v vs
+unfolding idsFrom
+ids-first v vs = rw (zero-add, add-zero)
+
+in-order-first : (d : ℕ) (ds : List ℕ) → inOrder 0 (d ∷ ds) ≡ and (and (leb 1 d) (leb d TERMINATED)) (inOrder d ds)
+unfolding inOrder
+in-order-first d ds = rw zero-add
+
+pub behind-first : (d : ℕ) (ds : List ℕ) → idsBehind 0 (d ∷ ds) ≡ (d - 1) ∷ idsBehind d ds
+unfolding idsBehind
+behind-first d ds = rw zero-add
+
+first-question : (v : ℕ) (vs : List ℕ) → inOrder 0 (firstDifference v ∷ vs) ≡ rising 0 (idsFrom 0 0 (v ∷ vs))
+unfolding rising firstDifference choose
+first-question v vs = in-order-first (firstDifference v) vs ∙ (go (ltb v TERMINATED) refl ∙ rw (ids-first v vs))
+  where
+    go : (t : Bool) → ltb v TERMINATED ≡ t
+        → (let d : ℕ = choose t (λ _. v + 1) (λ _. 0) in
+        and (and (leb 1 d) (leb d TERMINATED)) (inOrder d vs) ≡ and (and (leb 0 v) (ltb v TERMINATED)) (rising (v + 1) (idsFrom 0 v vs)))
+    go true e = rw (le-leb 1 (v + 1) (omega arith), below-leb v TERMINATED, le-leb 0 v (omega arith), plain-question v vs)
+    go false e = sym (rw (e, and-false (leb 0 v)))
+
+first-same : (v : ℕ) (vs : List ℕ) → inOrder 0 (firstDifference v ∷ vs) ≡ true → idsBehind 0 (firstDifference v ∷ vs) ≡ idsFrom 0 0 (v ∷ vs)
+unfolding firstDifference choose
+first-same v vs h =
+    behind-first (firstDifference v) vs ∙ (go (ltb v TERMINATED) (sym (in-order-first (firstDifference v) vs) ∙ h) ∙ sym (ids-first v vs))
+  where
+    go : (t : Bool)
+        → (let d : ℕ = choose t (λ _. v + 1) (λ _. 0) in
+        and (and (leb 1 d) (leb d TERMINATED)) (inOrder d vs) ≡ true → ((d - 1) ∷ idsBehind d vs) ≡ (v ∷ idsFrom 0 v vs))
+    go true h = ap₂ (λ (d : ℕ) (ds : List ℕ). d ∷ ds) (add-sub-cancel v 1) (plain-same v vs)
+    go false h = absurd (false≢true h)
+
+pub differ-plain : (least : ℕ) (vs : List ℕ) → Differ false least vs (asDifferences least vs)
+unfolding asDifferences ids idsFrom origin reduction inOrder idsBehind rising
+differ-plain zero [] = record { question = refl; same = λ _. refl }
+differ-plain (suc d) [] = record { question = refl; same = λ _. refl }
+differ-plain zero (v ∷ vs) = record { question = first-question v vs; same = first-same v vs }
+differ-plain (suc d) (v ∷ vs) =
+    let before : suc d - 1 ≡ d = omega arith in
+    record {
+      question = rw add-one at (plain-question d (v ∷ vs)) ∙ ap (λ (e : ℕ). rising (suc d) (idsFrom 0 e (v ∷ vs))) (sym before);
+      same = λ _. rw add-one at (plain-same d (v ∷ vs)) ∙ ap (λ (e : ℕ). idsFrom 0 e (v ∷ vs)) (sym before);
+    }
+
+-- ---- question 6 by the last id
+
+-- sums don't fall
+last-least : (least : ℕ) (ds : List ℕ) → least ≤ lastOf (least - 1) (idsBehind least ds) + 1
+unfolding idsBehind lastOf
+last-least least [] = omega arith
+last-least least (d ∷ ds) = omega (arith, last-least (least + d) ds)
+
+-- what lies before the last id lies below TERMINATED if that does
+absorbed : (least last : ℕ) → least ≤ last + 1 → and (leb least TERMINATED) (ltb last TERMINATED) ≡ ltb last TERMINATED
+absorbed least last h = go (ltb last TERMINATED) refl
+  where
+    go : (t : Bool) → ltb last TERMINATED ≡ t → and (leb least TERMINATED) t ≡ t
+    go true e = rw (le-leb least TERMINATED (omega (arith, ltb-true last TERMINATED e)))
+    go false e = and-false (leb least TERMINATED)
+
+-- where no difference is 0 the last id decides; z stands before them
+pub in-order-last : (z least : ℕ) (ds : List ℕ) → 0 < length ds → member 0 ds ≡ false
+    → inOrder least ds ≡ ltb (lastOf z (idsBehind least ds)) TERMINATED
+unfolding inOrder idsBehind lastOf member
+in-order-last z least [] some h = absurd (omega arith)
+in-order-last z least (zero ∷ ds) some h = absurd (false≢true (sym h))
+in-order-last z least (suc d ∷ []) some h =
+    let one : least + suc d - 1 + 1 ≡ least + suc d = omega arith in
+    rw (le-leb 1 (suc d) (omega arith), and-true, ← one, below-leb (least + suc d - 1) TERMINATED, one)
+in-order-last z least (suc d ∷ (e ∷ ds)) some h =
+    let next : ℕ = least + suc d in
+    rw (le-leb 1 (suc d) (omega arith), in-order-last (next - 1) next (e ∷ ds) (zero-lt-suc _) (rw (ne-eqb 0 (suc d) (omega arith)) at h))
+    (absorbed next (lastOf (next - 1) (idsBehind next (e ∷ ds))) (last-least next (e ∷ ds)))
+
+-- where one is 0 they aren't in order
+pub zero-out-of-order : (least : ℕ) (ds : List ℕ) → member 0 ds ≡ true → inOrder least ds ≡ false
+unfolding inOrder member
+zero-out-of-order least [] h = absurd (false≢true h)
+zero-out-of-order least (zero ∷ ds) h = refl
+zero-out-of-order least (suc d ∷ ds) h =
+    rw (zero-out-of-order (least + suc d) ds (rw (ne-eqb 0 (suc d) (omega arith)) at h)) (and-false (and (leb 1 (suc d)) (leb (least + suc d) TERMINATED)))
+
+-- differences in order are those of ids that rise
+pub in-order-rising : (least : ℕ) (ds : List ℕ) → inOrder least ds ≡ true → rising least (idsBehind least ds) ≡ true
+unfolding inOrder idsBehind rising
+in-order-rising least [] h = refl
+in-order-rising least (d ∷ ds) h =
+    let p = and-eq-true-iff (and (leb 1 d) (leb (least + d) TERMINATED)) (inOrder (least + d) ds) .0 h in
+    let q = and-eq-true-iff (leb 1 d) (leb (least + d) TERMINATED) .0 (p .0) in
+    let some : 1 ≤ d = leb-true 1 d (q .0) in
+    let few : least + d ≤ TERMINATED = leb-true (least + d) TERMINATED (q .1) in
+    let next : least + d - 1 + 1 ≡ least + d = omega arith in
+    rw (le-leb least (least + d - 1) (omega arith), lt-ltb (least + d - 1) TERMINATED (omega arith), next) (in-order-rising (least + d) ds (p .1))
+
+-- a place of 32 bits holds each id whole
+pub ids-kept : (least : ℕ) (ds : List ℕ) → inOrder least ds ≡ true → map (λ d. d % 2 ^ 32) (idsBehind least ds) ≡ idsBehind least ds
+ids-kept least ds h =
+    kept-below (idsBehind least ds) (allBelow-le (idsBehind least ds) (omega arith) (rising-below least (idsBehind least ds) (in-order-rising least ds h)))
