@@ -187,12 +187,12 @@ pub fn open_in(image: &[u8], term: Term, docs: &mut [u32; 128], freqs: &mut [u32
 {
     let mut ids = [0; 128];
     let mut counts = [0; 128];
-    let reached = begin(image, term, &mut ids, &mut counts);
-    if let Reached::At(_) = reached {
+    let opened = begin(image, term, &mut ids, &mut counts);
+    if let Reached::At(_) = opened {
         *docs = ids;
         *freqs = counts;
     }
-    reached
+    opened
 }
 
 // The least id that may follow a last id; none may follow TERMINATED.

@@ -67,11 +67,8 @@ fn walk(image: &[u8], term: Term, layout: Layout) -> u8
         }
         'ids: for i in 0..taken.n {
             let difference = docs[i];
-            if difference == 0 {
-                break 'blocks DOCS_NOT_RISING;
-            }
             least += difference as u64;
-            if (TERMINATED as u64) < least {
+            if difference == 0 || (TERMINATED as u64) < least {
                 break 'blocks DOCS_NOT_RISING;
             }
         }

@@ -6,6 +6,7 @@
 use mathlib.Core.Path.{_≡_, refl, sym, ap, _∙_}
 use mathlib.Core.Bool.{true, false}
 use mathlib.Core.List.{List, [], _∷_}
+use mathlib.Core.Logic.{⊎-elim}
 use Prim.Native.Nat.{ℕ, _+_, _-_, _^_, _≤_, _<_, zero-le}
 use native.Mathlib.Nat.{pos-of-ne-zero}
 use native.Mathlib.Numerals.{add-one}
@@ -14,7 +15,7 @@ use denote.Ref.{now}
 use lib.ListN.{length, getD, take}
 use lib.Seq.{slice, slice-cons, slice-empty, length-take-le, getD-take}
 use borrow.Author.Needs.{needs}
-use borrow.Author.Tests.{not-true, not-false}
+use borrow.Author.Tests.{not-true, not-false, ltb-true, ltb-false}
 use Rattle.format.specs.declared.Layout.{Layout}
 use Rattle.format.specs.declared.Term.{Term}
 use Rattle.format.specs.Basics.{ok, refused, TERMINATED}
@@ -311,10 +312,10 @@ array-read-difference :
 array-read-difference c = omega (arith, taken (ids-of c) .n-most)
 
 cast-least : tie.Need-cast-least Inv-ids μ-ids Inv-counts μ-counts Inv-blocks2 μ-blocks2
-cast-least c = omega (arith, small (c .before))
+cast-least c = omega (arith, small c)
 
 add-least : tie.Need-add-least Inv-ids μ-ids Inv-counts μ-counts Inv-blocks2 μ-blocks2
-add-least c = omega (arith, small (c .before))
+add-least c = omega (arith, small c)
 
 cast-if3 : tie.Need-cast-if3 Inv-ids μ-ids Inv-counts μ-counts Inv-blocks2 μ-blocks2
 cast-if3 c = omega arith
@@ -329,7 +330,8 @@ ids-again : tie.Need-ids-again Inv-ids μ-ids Inv-counts μ-counts Inv-blocks2 �
 ids-again c =
     let turn = c .before .before in
     let some : 0 < difference turn = pos-of-ne-zero (c .before .if2 .left) in
-    (omega arith, omega arith, λ _. omega arith, ordered-next _ _ _ _ _ (ordered turn) some (omega arith))
+    let few : c .before .before .before .ids .least + difference turn ≤ TERMINATED = ltb-false _ _ (c .if3 .left) in
+    (omega arith, few, λ _. omega arith, ordered-next _ _ _ _ _ (ordered turn) some few)
 
 ends-right-requires :
     tie.Need-ends-right-requires Inv-ids μ-ids Inv-counts μ-counts Inv-blocks2 μ-blocks2
@@ -392,35 +394,35 @@ returns-2 c = stops (c .before .before) (docs-broken _ _ _ (not-true _ (c .if1 .
 returns-3 : tie.Need-returns-3 Inv-ids μ-ids Inv-counts μ-counts Inv-blocks2 μ-blocks2
 returns-3 c =
     let turn = c .before in
-    stops (ids-of turn) (docs-fallen _ _ _ (docs-there (turn .before .before)) (ordered-same _ _ _ _ _ (ordered turn) (c .if2 .taken)))
+    stops (ids-of turn)
+    (docs-fallen _ _ _ (docs-there (turn .before .before))
+    (⊎-elim
+    (λ w. ordered-same _ _ _ _ _ (ordered turn) (w .taken))
+    (λ w. ordered-over _ _ _ _ _ (ordered turn) (ltb-true _ _ (w .1 .taken)))
+    (c .if2 .came)))
 
 returns-4 : tie.Need-returns-4 Inv-ids μ-ids Inv-counts μ-counts Inv-blocks2 μ-blocks2
 returns-4 c =
-    let turn = c .before .before in
-    stops (ids-of turn) (docs-fallen _ _ _ (docs-there (turn .before .before)) (ordered-over _ _ _ _ _ (ordered turn) (c .if3 .taken)))
-
-returns-5 : tie.Need-returns-5 Inv-ids μ-ids Inv-counts μ-counts Inv-blocks2 μ-blocks2
-returns-5 c =
     let passed = c .before .before in
     let wrong = ends passed ∙ (sym (c .before .ends-right .ensures) ∙ not-true _ (c .if4 .taken)) in
     stops (all-of passed) (docs-end-wrong _ _ _ (docs-there (passed .before .before)) wrong)
 
-returns-6 : tie.Need-returns-6 Inv-ids μ-ids Inv-counts μ-counts Inv-blocks2 μ-blocks2
-returns-6 c = stops-behind (c .before .before) (freqs-broken _ _ (not-true _ (c .if5 .taken)))
+returns-5 : tie.Need-returns-5 Inv-ids μ-ids Inv-counts μ-counts Inv-blocks2 μ-blocks2
+returns-5 c = stops-behind (c .before .before) (freqs-broken _ _ (not-true _ (c .if5 .taken)))
 
-returns-7 : tie.Need-returns-7 Inv-ids μ-ids Inv-counts μ-counts Inv-blocks2 μ-blocks2
-returns-7 c =
+returns-6 : tie.Need-returns-6 Inv-ids μ-ids Inv-counts μ-counts Inv-blocks2 μ-blocks2
+returns-6 c =
     let turn = c .before in
     stops-behind (sized turn .before .before .before) (freqs-wrong _ _ (freqs-there (sized turn)) (counted-never _ _ _ _ (counted turn) (c .if6 .taken)))
 
-returns-8 : tie.Need-returns-8 Inv-ids μ-ids Inv-counts μ-counts Inv-blocks2 μ-blocks2
-returns-8 c =
+returns-7 : tie.Need-returns-7 Inv-ids μ-ids Inv-counts μ-counts Inv-blocks2 μ-blocks2
+returns-7 c =
     let passed = c .before .before in
     let sized = behind-freqs passed in
     stops-behind (sized .before .before .before) (freqs-not-last _ _ (freqs-there sized) (all-counted passed) (not-true _ (c .if7 .taken)))
 
-returns-9 : tie.Need-returns-9 Inv-ids μ-ids Inv-counts μ-counts Inv-blocks2 μ-blocks2
-returns-9 c =
+returns-8 : tie.Need-returns-8 Inv-ids μ-ids Inv-counts μ-counts Inv-blocks2 μ-blocks2
+returns-8 c =
     let passed = c .before .before in
     let took = done passed in
     let end = ends-at-tail _ _ _ _ _ _ (found (told took)) (taken took) (docs-passed (docs-of passed)) (freqs-passed passed) (not-true _ (c .if8 .taken)) in
@@ -471,5 +473,4 @@ walk-spec =
     returns-5
     returns-6
     returns-7
-    returns-8
-    returns-9)
+    returns-8)
