@@ -3,7 +3,9 @@
 --     Data                 such a type
 --     uint, struct, enum   an unsigned integer; a declared struct; a declared enum
 --     Two P Q              a struct of two fields, as an answer and a record: it is read field by field, and made of its fields
+--     Three P Q Z          a struct of three fields: it is read field by field
 --     lies, stands         what a local holds becomes what lies behind a reference to it, and the other way round
+--     copied               what is owned can be had twice
 -- Assumes nothing.
 use mathlib.Core.Path.{_≡_, refl, sym, subst}
 use Prim.Native.Nat.{ℕ}
@@ -19,7 +21,7 @@ use prog.Wp.{Heap}
 use ghost.Atoms.{Atoms, sem}
 use types.Kit.{Given, ‵, _$_, _∵_, !, qed, move, use1, drop, rewrite, fsplit, fjoin, fpick, fpack, check, done}
 use denote.RattleType.{RattleType}
-use denote.Laws.{Is, shows, Tells, Makes}
+use denote.Laws.{Is, shows, Tells, Makes, Copy}
 use denote.Steps.{peeks, owned}
 use denote.Memory.{lone, mem, cellAt, partOf}
 use denote.Plain.{UInt, uint-tells, uint-makes, uint-lawful}
@@ -112,6 +114,26 @@ pub record Two (P Q : Data) : Type 2 where
       (p : P .row .Denot) (q : Q .row .Denot) →
       Is (P .row) p (P .val p ∷ []) → Is (Q .row) q (Q .val q ∷ []) → Is row (make p q) (pairVal P Q p q ∷ [])
 
+-- a struct of three fields, which is read field by field
+abbrev pub tripleTy : (P Q Z : Data) → Sym → Ty
+tripleTy P Q Z name = tyStruct name (tcons (P .mir) (tcons (Q .mir) (tcons (Z .mir) tnil)))
+
+pub record Three (P Q Z : Data) : Type 2 where
+  pub row : RattleType
+  pub name : Sym
+  pub fst : row .Denot → P .row .Denot
+  pub snd : row .Denot → Q .row .Denot
+  pub thd : row .Denot → Z .row .Denot
+  pub tells :
+      Tells row (Is row) (λ r. vstruct (vcons (P .val (fst r)) (vcons (Q .val (snd r)) (vcons (Z .val (thd r)) vnil))) ∷ [])
+  pub typed :
+      {M : Type 1} (𝓤 : URA M) (H : Heap 𝓤) (A : Atoms 𝓤) → Given 𝓤 H A →
+      (r : row .Denot) (v : Val) → Is row r (v ∷ []) → Holds (hasTy (tripleTy P Q Z name) v) × WT v
+  pub parts :
+      (r : row .Denot) (v : Val) → Is row r (v ∷ []) →
+      Is (P .row) (fst r) (P .val (fst r) ∷ []) ×
+      (Is (Q .row) (snd r) (Q .val (snd r) ∷ []) × Is (Z .row) (thd r) (Z .val (thd r) ∷ []))
+
 -- what a local at the block b and the offset o holds, where it holds x
 abbrev pub cell : (d : Data) → d .row .Denot → ℕ → ℕ → Fml
 cell d x b o = fat fullShare (d .mir) b o (d .val x)
@@ -134,3 +156,11 @@ module _ (d : Data) {M : Type 1} (𝓤 : URA M) (H : Heap 𝓤) (A : Atoms 𝓤)
       peeks ! (d .row) (Is (d .row)) (shows 𝓤 H A (d .row)) x _ (λ is. drop ! $ check ! is $
       rewrite ! 0 (λ (τs : List Ty). ‵ (cellAt fullShare τs (d .val x ∷ []) b o)) (d .is-mir) refl $
       use1 W (‵ (cell d x b o)) (W .laws .raw-at fullShare (d .mir) b o (d .val x)) $ done !))
+
+-- what is owned can be had twice
+pub copied : (d : Data) {M : Type 1} (𝓤 : URA M) (H : Heap 𝓤) (A : Atoms 𝓤) → Given 𝓤 H A → Copy 𝓤 H A (d .row)
+copied d 𝓤 H A W = record {
+  twice = λ x vs.
+      qed W (‵ (d .row .own x vs) ∷ []) ∵ peeks ! (d .row) (Is (d .row)) (shows 𝓤 H A (d .row)) x vs (λ is.
+      owned ! (d .row) (Is (d .row)) (d .makes 𝓤 H A W) x vs is $ done !);
+}

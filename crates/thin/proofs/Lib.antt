@@ -4,3 +4,13 @@ pub mod Params
 pub mod Locals
 pub mod Lent
 pub mod Owns
+pub mod Shifts
+pub mod Calls
+pub mod Lends
+pub mod Over
+pub mod Init
+pub mod Along
+pub mod Folded
+pub mod Pass
+pub mod Turns
+pub mod Both

@@ -2,6 +2,7 @@
 -- Each lemma repeats the rule of `types.Run` for one local.
 --     Blocks τs, localsOf, envOf     a block for each local of the types τs, their declarations, and the environment that they make
 --     rooms, cells                   what there is of them: room, or the values vs
+--     idle                           one local that holds nothing, as entries of its own
 --     alloc-all, pass-all, forget-all, free-all      alloc1, pass1, forget and free1
 --     past, past-at, finds-at, opd-at      the local k places after them, which is found and read
 --     copies, Spots, opds-all        they are read as the operands of a call
@@ -45,6 +46,9 @@ cells [] bs vs = ftrue
 cells (τ ∷ τs) bs [] = rooms (τ ∷ τs) bs
 cells (τ ∷ τs) bs (v ∷ vs) = fsep (fsep (fat fullShare τ (bs .0) 0 v) (fdies τ (bs .0))) (cells τs (bs .1) vs)
 
+abbrev pub idle : {M : Type 1} {𝓤 : URA M} → Ty → ℕ → List (Item 𝓤)
+idle τ b = ‵ (froom τ b 0) ∷ ‵ (fdies τ b) ∷ []
+
 -- copies of the locals from i on, as operands
 abbrev pub copies : ℕ → List Ty → List Operand
 copies i [] = []
@@ -79,6 +83,12 @@ spots-first (τ ∷ τs) bs F d = (refl, spots-after (τ, bs .0) (envOf τs (bs 
 pub spots-third :
     (e f : Ty × ℕ) (τs : List Ty) (bs : Blocks τs) (F : List (Ty × ℕ)) (d : Ty × ℕ) → Spots (e ∷ f ∷ (envOf τs bs ++ F)) 2 τs bs d
 spots-third e f τs bs F d = spots-after e _ 1 τs bs d (spots-after f _ 0 τs bs d (spots-first τs bs F d))
+
+-- after three others: the result and the first two parameters
+pub spots-fourth :
+    (e f g : Ty × ℕ) (τs : List Ty) (bs : Blocks τs) (F : List (Ty × ℕ)) (d : Ty × ℕ) →
+    Spots (e ∷ f ∷ g ∷ (envOf τs bs ++ F)) 3 τs bs d
+spots-fourth e f g τs bs F d = spots-after e _ 2 τs bs d (spots-third f g τs bs F d)
 
 module _ {M : Type 1} {𝓤 : URA M} {H : Heap 𝓤} {A : Atoms 𝓤} {K : Type 0} {W : Given 𝓤 H A} where
   pub alloc-all :
