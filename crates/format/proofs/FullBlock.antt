@@ -15,9 +15,9 @@ use Rattle.format.specs.declared.IndexRecordOption.{IndexRecordOption}
 use Rattle.format.specs.declared.BlockInfo.{BlockInfo}
 use Rattle.format.specs.Basics.{ok, ask, andThen, lastOf, TERMINATED, AllBelow}
 use Rattle.format.specs.Bitpacking.{pack, unpack, width}
-use Rattle.format.specs.Values.{gaps, reduced, restored}
+use Rattle.format.specs.Values.{reduced, restored}
 use Rattle.format.specs.SkipEntry.{hasFreq, entrySize, readEntry, blockSize, entryFits}
-use Rattle.format.specs.Written.{onlyIf, Parts}
+use Rattle.format.specs.Written.{onlyIf, docValues, freqValues, infoOf, Parts}
 use Rattle.format.specs.Reading.{Block, fullDocs, fullFreqs, before, entryBlock, readFrom}
 use Rattle.format.specs.ReadsBack.{readFreqs}
 use Rattle.format.specs.Accepted.{Accepted}
@@ -44,14 +44,14 @@ module _ (option : IndexRecordOption) (least : ℕ) (ds fs : List ℕ) (a : Acce
   abbrev it : Parts
   it = withBlock option least ds fs rest
 
-  abbrev docValues : List ℕ
-  docValues = gaps true least ds
+  abbrev dv : List ℕ
+  dv = docValues least ds
 
-  abbrev freqValues : List ℕ
-  freqValues = onlyIf (hasFreq option) (reduced true fs)
+  abbrev fv : List ℕ
+  fv = freqValues option fs
 
   abbrev entry : BlockInfo
-  entry = record { «last_doc» = lastOf 0 ds; «doc_width» = width docValues; strict = true; «freq_width» = width freqValues }
+  entry = infoOf option least ds fs
 
   abbrev block : Bool → Block
   block wanted = record { docs = ds; freqs = readFreqs (and (hasFreq option) wanted) fs; last = lastOf 0 ds }
@@ -59,45 +59,48 @@ module _ (option : IndexRecordOption) (least : ℕ) (ds fs : List ℕ) (a : Acce
   last-fits : (least ≤ lastOf 0 ds) × (lastOf 0 ds < TERMINATED)
   last-fits = rising-last least ds (a .rises) (omega arith)
 
-  gaps-fit : (m : ℕ) → TERMINATED ≤ m → AllBelow m docValues
-  gaps-fit m h = allBelow-le docValues h (gaps-below true least ds (a .rises))
+  gaps-fit : (m : ℕ) → TERMINATED ≤ m → AllBelow m dv
+  unfolding docValues
+  gaps-fit m h = allBelow-le dv h (gaps-below true least ds (a .rises))
 
-  doc-width : width docValues < 32
-  doc-width = omega (arith, width-least docValues 31 (gaps-fit (2 ^ 31) (omega arith)))
+  doc-width : width dv < 32
+  doc-width = omega (arith, width-least dv 31 (gaps-fit (2 ^ 31) (omega arith)))
 
   entry-read : readEntry option (it .skips) ≡ entry
+  unfolding infoOf freqValues
   entry-read =
       ap (readEntry option) (withBlock-skips option least ds fs rest)
-      ∙ entry-reads-back option _ _ _ _ (omega (arith, last-fits)) doc-width (no-width (hasFreq option) _)
+      ∙ entry-reads-back option entry _ (omega (arith, last-fits)) doc-width (no-width (hasFreq option) _)
 
   skips-behind : drop (entrySize option) (it .skips) ≡ rest .skips
   skips-behind = simp (withBlock-skips, drop-at, entry-length)
 
-  freqs-behind : drop (16 * width docValues) (it .postings) ≡ pack (width freqValues) freqValues ++ rest .postings
+  freqs-behind : drop (16 * width dv) (it .postings) ≡ pack (width fv) fv ++ rest .postings
   freqs-behind = simp (withBlock-postings, drop-at, pack-length)
 
   postings-behind : drop (blockSize entry) (it .postings) ≡ rest .postings
-  unfolding blockSize
+  unfolding blockSize infoOf
   postings-behind = rw (mul-add, ← drop-drop, freqs-behind) (simp (drop-at, pack-length))
 
   room : blockSize entry ≤ length (it .postings)
-  unfolding blockSize
+  unfolding blockSize infoOf
   room = rw withBlock-postings (simp (length-append, pack-length) (omega arith))
 
   fits : entryFits least (length (it .postings)) entry ≡ true
-  unfolding entryFits
+  unfolding entryFits infoOf
   fits =
       let l = last-fits in
-      rw (le-leb (width freqValues) 32 (width-le _), le-leb least _ (l .0), lt-ltb _ TERMINATED (l .1), le-leb _ _ room)
+      rw (le-leb (width fv) 32 (width-le fv), le-leb least _ (l .0), lt-ltb _ TERMINATED (l .1), le-leb _ _ room)
 
   docs-read : fullDocs least entry (it .postings) ≡ ds
+  unfolding infoOf docValues
   docs-read =
-      let long : length docValues ≡ 128 = length-gaps true least ds ∙ full in
-      let small : AllBelow (2 ^ 32) docValues = gaps-fit (2 ^ 32) (omega arith) in
-      rw (fullDocs-is, withBlock-postings, unpacked docValues) (gaps-read-back true least ds (a .rises))
+      let long : length dv ≡ 128 = length-gaps true least ds ∙ full in
+      let small : AllBelow (2 ^ 32) dv = gaps-fit (2 ^ 32) (omega arith) in
+      rw (fullDocs-is, withBlock-postings, unpacked dv) (gaps-read-back true least ds (a .rises))
 
-  kept-read : hasFreq option ≡ true → restored true (unpack (width freqValues) (drop (16 * width docValues) (it .postings))) ≡ fs
-  unfolding onlyIf
+  kept-read : hasFreq option ≡ true → restored true (unpack (width fv) (drop (16 * width dv) (it .postings))) ≡ fs
+  unfolding onlyIf freqValues
   kept-read k =
       let long : length (reduced true fs) ≡ 128 = length-reduced true fs ∙ sym (a .as-many) ∙ full in
       let small : AllBelow (2 ^ 32) (reduced true fs) = reduced-below _ true fs (countable-below fs (a .counts k)) in
@@ -105,12 +108,12 @@ module _ (option : IndexRecordOption) (least : ℕ) (ds fs : List ℕ) (a : Acce
 
   freqs-read : (read : Bool) → (read ≡ true → hasFreq option ≡ true)
       → fullFreqs read entry (it .postings) ≡ ok (readFreqs read fs)
-  unfolding readFreqs ask
+  unfolding readFreqs ask infoOf
   freqs-read false h = fullFreqs-unread entry (it .postings) ∙ rw (← a .as-many, full)
   freqs-read true h = rw (fullFreqs-read, kept-read (h refl), a .counts (h refl))
 
   block-read : (wanted : Bool) → entryBlock option wanted least (it .skips) (it .postings) ≡ ok (block wanted)
-  unfolding ask andThen
+  unfolding ask andThen infoOf
   block-read wanted =
       let freqs = freqs-read (and (hasFreq option) wanted) (λ k. and-eq-true-iff _ _ .0 k .0) in
       rw (entryBlock-is, entry-read, fits, fullBlock-is, docs-read, freqs, a .rises, eq-eqb (lastOf 0 ds) _ refl)
@@ -118,4 +121,5 @@ module _ (option : IndexRecordOption) (least : ℕ) (ds fs : List ℕ) (a : Acce
   pub block-reads-back : (wanted alone : Bool) (tail n : ℕ)
       → readFrom (walkBy option wanted alone tail) (suc n) least (it .skips) (it .postings)
       ≡ (before (ok (block wanted)) λ _. readFrom (walkBy option wanted alone tail) n (lastOf 0 ds + 1) (rest .skips) (rest .postings))
+  unfolding infoOf
   block-reads-back wanted alone tail n = rw (readFrom-suc, block-read, entry-read, skips-behind, postings-behind)

@@ -14,9 +14,9 @@ use Rattle.format.specs.declared.IndexRecordOption.{IndexRecordOption}
 use Rattle.format.specs.Basics.{lastOf}
 use Rattle.format.specs.Vint.{vint, vints}
 use Rattle.format.specs.Bitpacking.{pack, width}
-use Rattle.format.specs.Values.{gaps, reduction, origin, reduced}
+use Rattle.format.specs.Values.{gaps, reduction, origin}
 use Rattle.format.specs.SkipEntry.{hasFreq, writeEntry}
-use Rattle.format.specs.Written.{onlyIf, docValues, freqValues, entryOf, blockOf, Parts, blocksOf, headOf, tailOf, imageWith, imageFrom, image}
+use Rattle.format.specs.Written.{onlyIf, docValues, freqValues, infoOf, entryOf, blockOf, Parts, blocksOf, headOf, tailOf, imageWith, imageFrom, image}
 
 -- a full block in front of what follows it
 unfoldable pub withBlock : IndexRecordOption → ℕ → List ℕ → List ℕ → Parts → Parts
@@ -37,22 +37,19 @@ headed n p = headOf n (p .skips) ++ p .postings
 -- ---- opened by one turn
 
 pub withBlock-skips : (option : IndexRecordOption) (least : ℕ) (ds fs : List ℕ) (rest : Parts)
-    → withBlock option least ds fs rest .skips
-    ≡ (let dv : List ℕ = gaps true least ds in
-    let fv : List ℕ = onlyIf (hasFreq option) (reduced true fs) in
-    writeEntry option (lastOf 0 ds) (width dv) (width fv) ++ rest .skips)
-unfolding withBlock entryOf docValues freqValues
+    → withBlock option least ds fs rest .skips ≡ writeEntry option (infoOf option least ds fs) ++ rest .skips
+unfolding withBlock entryOf
 withBlock-skips option least ds fs rest = refl
 
 pub withBlock-postings : (option : IndexRecordOption) (least : ℕ) (ds fs : List ℕ) (rest : Parts)
     → withBlock option least ds fs rest .postings
-    ≡ (let dv : List ℕ = gaps true least ds in
-    let fv : List ℕ = onlyIf (hasFreq option) (reduced true fs) in
+    ≡ (let dv : List ℕ = docValues least ds in
+    let fv : List ℕ = freqValues option fs in
     pack (width dv) dv ++ (pack (width fv) fv ++ rest .postings))
-unfolding withBlock blockOf docValues freqValues
+unfolding withBlock blockOf
 withBlock-postings option least ds fs rest =
-    let dv : List ℕ = gaps true least ds in
-    let fv : List ℕ = onlyIf (hasFreq option) (reduced true fs) in
+    let dv : List ℕ = docValues least ds in
+    let fv : List ℕ = freqValues option fs in
     append-assoc (pack (width dv) dv) (pack (width fv) fv) (rest .postings)
 
 pub parts-tail : (option : IndexRecordOption) (least : ℕ) (ds fs : List ℕ)

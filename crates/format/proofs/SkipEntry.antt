@@ -2,20 +2,21 @@
 -- each times its weight, and a width is below 32, so that neither it nor the strict bit above it disturbs the other. Only what
 -- follows them, the frequency width first, goes by the option.
 -- Assumes nothing.
-use mathlib.Core.Bool.{true, false, and-eq-true-iff}
+use mathlib.Core.Bool.{Bool, true, false, and-eq-true-iff}
 use mathlib.Core.List.{List, [], _∷_, _++_}
 use mathlib.Core.Path.{_≡_, refl, sym}
 use Prim.Native.Nat.{ℕ, _+_, _/_, _%_, _^_, _≤_, _<_}
 use native.Mathlib.Nat.{add-assoc, mod-eq-of-lt, div-div-eq-div-mul}
 use native.Mathlib.Omega.{arith}
 use borrow.Author.Tests.{leb-true, ltb-true}
+use lib.Dec.{eqb}
 use lib.ListN.{length}
 use lib.Seq.{getD-append-add, getD-at}
 use Rattle.format.specs.declared.IndexRecordOption.{IndexRecordOption}
 use Rattle.format.specs.declared.IndexRecordOption.the-variants.{Basic, WithFreqs}
 use Rattle.format.specs.declared.BlockInfo.{BlockInfo}
-use Rattle.format.specs.Basics.{word, le32, TERMINATED}
-use Rattle.format.specs.SkipEntry.{hasFreq, entrySize, freqWidthOf, readEntry, freqPart, writeEntry, blockSize, entryFits}
+use Rattle.format.specs.Basics.{choose, word, le32, TERMINATED}
+use Rattle.format.specs.SkipEntry.{hasFreq, entrySize, freqWidthOf, readEntry, freqPart, widthByte, writeEntry, blockSize, entryFits}
 
 -- ---- 32-bit numbers
 
@@ -38,9 +39,9 @@ unfolding freqPart entrySize
 freqPart-length Basic fw = refl
 freqPart-length WithFreqs fw = refl
 
-pub entry-length : (option : IndexRecordOption) (last dw fw : ℕ) → length (writeEntry option last dw fw) ≡ entrySize option
+pub entry-length : (option : IndexRecordOption) (e : BlockInfo) → length (writeEntry option e) ≡ entrySize option
 unfolding writeEntry le32
-entry-length option last dw fw = omega (arith, freqPart-length option fw)
+entry-length option e = omega (arith, freqPart-length option (e .«freq_width»))
 
 freqPart-reads-back : (option : IndexRecordOption) (fw : ℕ) (five rest : List ℕ)
     → length five ≡ 5 → (hasFreq option ≡ false → fw ≡ 0) → freqWidthOf option (five ++ (freqPart option fw ++ rest)) ≡ fw
@@ -48,15 +49,21 @@ unfolding freqPart freqWidthOf hasFreq
 freqPart-reads-back Basic fw five rest l h = sym (h refl)
 freqPart-reads-back WithFreqs fw five rest l h = getD-at five fw _ 0 5 l
 
-pub entry-reads-back : (option : IndexRecordOption) (last dw fw : ℕ) (rest : List ℕ)
-    → last < 2 ^ 32 → dw < 32 → (hasFreq option ≡ false → fw ≡ 0)
-    → readEntry option (writeEntry option last dw fw ++ rest)
-    ≡ record { «last_doc» = last; «doc_width» = dw; strict = true; «freq_width» = fw }
-unfolding readEntry writeEntry
-entry-reads-back option last dw fw rest l d f =
-    let width : (dw + 64) % 32 ≡ dw = omega arith in
-    let high : (dw + 64) / 64 ≡ 1 = omega arith in
-    rw (width, high, word-here last _ l, freqPart-reads-back option fw (le32 last ++ ((dw + 64) ∷ [])) rest refl f)
+-- a width byte holds the width below its bit 6
+byte-reads-back : (dw : ℕ) (strict : Bool) → dw < 32
+    → (let byte : ℕ = dw + choose strict (λ _. 64) (λ _. 0) in (byte % 32 ≡ dw) × (eqb (byte / 64 % 2) 1 ≡ strict))
+unfolding choose
+byte-reads-back dw true h = let high : (dw + 64) / 64 ≡ 1 = omega arith in (omega arith, rw high)
+byte-reads-back dw false h = let high : (dw + 0) / 64 ≡ 0 = omega arith in (omega arith, rw high)
+
+pub entry-reads-back : (option : IndexRecordOption) (e : BlockInfo) (rest : List ℕ)
+    → e .«last_doc» < 2 ^ 32 → e .«doc_width» < 32 → (hasFreq option ≡ false → e .«freq_width» ≡ 0)
+    → readEntry option (writeEntry option e ++ rest) ≡ e
+unfolding readEntry writeEntry widthByte
+entry-reads-back option e rest l d f =
+    let byte = byte-reads-back (e .«doc_width») (e .strict) d in
+    let five : List ℕ = le32 (e .«last_doc») ++ (widthByte e ∷ []) in
+    rw (byte .0, byte .1, word-here (e .«last_doc») _ l, freqPart-reads-back option (e .«freq_width») five rest refl f)
 
 -- question 5 answered yes
 pub record EntryFits (least left : ℕ) (e : BlockInfo) : Type 0 where

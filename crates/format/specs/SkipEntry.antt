@@ -9,7 +9,7 @@ use lib.Dec.{eqb, leb, ltb}
 use Rattle.format.specs.declared.IndexRecordOption.{IndexRecordOption}
 use Rattle.format.specs.declared.IndexRecordOption.the-variants.{Basic, WithFreqs}
 use Rattle.format.specs.declared.BlockInfo.{BlockInfo}
-use Rattle.format.specs.Basics.{word, le32, TERMINATED}
+use Rattle.format.specs.Basics.{choose, word, le32, TERMINATED}
 
 -- whether frequencies are kept
 unfoldable pub hasFreq : IndexRecordOption → Bool
@@ -38,10 +38,15 @@ unfoldable pub freqPart : IndexRecordOption → ℕ → List ℕ
 freqPart Basic fw = []
 freqPart WithFreqs fw = fw ∷ 0 ∷ 0 ∷ []
 
--- as the writer has it: strict, and 0 in the last two
-unfoldable pub writeEntry : IndexRecordOption → ℕ → ℕ → ℕ → List ℕ
-unfolding le32 freqPart
-writeEntry option last dw fw = le32 last ++ ((dw + 64) ∷ freqPart option fw)
+-- the width, with bit 6 set for a strict block
+unfoldable pub widthByte : BlockInfo → ℕ
+unfolding choose
+widthByte e = e .«doc_width» + choose (e .strict) (λ _. 64) (λ _. 0)
+
+-- an entry as it is written: 0 in the last two
+unfoldable pub writeEntry : IndexRecordOption → BlockInfo → List ℕ
+unfolding le32 widthByte freqPart
+writeEntry option e = le32 (e .«last_doc») ++ (widthByte e ∷ freqPart option (e .«freq_width»))
 
 -- the bytes of the entry's block: 16 for each bit of the two widths together
 unfoldable pub blockSize : BlockInfo → ℕ

@@ -5,6 +5,7 @@ use mathlib.Core.Bool.{Bool, true, false}
 use mathlib.Core.List.{List, [], _++_}
 use Prim.Native.Nat.{ℕ, zero, suc, _+_, _*_, _/_}
 use lib.ListN.{length, take, drop}
+use Rattle.format.specs.declared.BlockInfo.{BlockInfo}
 use Rattle.format.specs.declared.IndexRecordOption.{IndexRecordOption}
 use Rattle.format.specs.Basics.{lastOf}
 use Rattle.format.specs.Vint.{vint, vints}
@@ -27,10 +28,20 @@ unfoldable pub freqValues : IndexRecordOption → List ℕ → List ℕ
 unfolding onlyIf hasFreq reduced
 freqValues option fs = onlyIf (hasFreq option) (reduced true fs)
 
+-- what its skip entry says of it: the writer's blocks are strict
+unfoldable pub infoOf : IndexRecordOption → ℕ → List ℕ → List ℕ → BlockInfo
+unfolding lastOf width docValues freqValues
+infoOf option least ds fs = record {
+  «last_doc» = lastOf 0 ds;
+  «doc_width» = width (docValues least ds);
+  strict = true;
+  «freq_width» = width (freqValues option fs);
+}
+
 -- its skip entry
 unfoldable pub entryOf : IndexRecordOption → ℕ → List ℕ → List ℕ → List ℕ
-unfolding writeEntry lastOf width docValues freqValues
-entryOf option least ds fs = writeEntry option (lastOf 0 ds) (width (docValues least ds)) (width (freqValues option fs))
+unfolding writeEntry infoOf
+entryOf option least ds fs = writeEntry option (infoOf option least ds fs)
 
 -- its bytes: documents before frequencies
 unfoldable pub blockOf : IndexRecordOption → ℕ → List ℕ → List ℕ → List ℕ

@@ -3,15 +3,16 @@
 use mathlib.Core.Path.{_≡_}
 use mathlib.Core.Bool.{Bool, _&&_ as and}
 use mathlib.Core.List.{List}
-use Prim.Native.Nat.{ℕ, _+_, _*_, _≤_, _<_}
+use Prim.Native.Nat.{ℕ, _+_, _≤_, _<_}
 use lib.Dec.{ltb}
 use lib.ListN.{length}
+use Rattle.format.specs.declared.BlockInfo.{BlockInfo}
 use Rattle.format.specs.declared.IndexRecordOption.{IndexRecordOption}
 use Rattle.format.specs.declared.Next.{Next}
 use Rattle.format.specs.declared.Next.the-variants.{At as Behind, Refused}
 use Rattle.format.specs.Basics.{Outcome, ok, andThen, ask, putAt, TERMINATED, choose, fitsAt}
 use Rattle.format.specs.Refusal.{noRoom, stateBroken}
-use Rattle.format.specs.SkipEntry.{entrySize}
+use Rattle.format.specs.SkipEntry.{entrySize, blockSize}
 use Rattle.format.specs.Written.{entryOf, blockOf}
 use Rattle.format.specs.Accepted.{takeDoc}
 use Rattle.serializer.specs.declared.PostingsSerializer.{PostingsSerializer}
@@ -24,12 +25,12 @@ use Rattle.serializer.specs.Writer.{boundsHold, optionOf, firstLeast, le
 
 -- ---- a block
 
--- a block of these widths and its entry fit their areas from these places on
-pub record BlockFits (option : IndexRecordOption) (dw fw : ℕ) (at : Places) (skips postings : List ℕ) : Type 0 where
-  pub doc-width : dw < 32
-  pub freq-width : fw ≤ 32
+-- an entry and its block fit their areas from these places on
+pub record BlockFits (option : IndexRecordOption) (info : BlockInfo) (at : Places) (skips postings : List ℕ) : Type 0 where
+  pub doc-width : info .«doc_width» < 32
+  pub freq-width : info .«freq_width» ≤ 32
   pub skips-room : at .skips + entrySize option ≤ length skips
-  pub postings-room : at .postings + 16 * (dw + fw) ≤ length postings
+  pub postings-room : at .postings + blockSize info ≤ length postings
 
 -- the places behind an entry and a block
 abbrev pub behindBoth : (entry block : List ℕ) → Places → Places

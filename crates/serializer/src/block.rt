@@ -6,19 +6,21 @@ use common::within;
 use compression::compressed_block_size;
 use compression::values::reduce_docs;
 use compression::values::reduce_freqs;
+use format::BlockInfo;
 use format::IndexRecordOption;
+use skip::block_size;
 use skip::entry_size;
 use skip::has_freq;
 use skip::write_entry;
 ghost use mathlib.Core.Path.{_≡_};
 ghost use mathlib.Core.Bool.{true, _&&_ as and};
 ghost use mathlib.Core.List.{_++_};
-ghost use Prim.Native.Nat.{_+_, _*_, _≤_, _<_};
+ghost use Prim.Native.Nat.{_+_, _*_, _≤_};
 ghost use lib.ListN.{length};
 ghost use lib.Dec.{leb};
 ghost use Rattle.format.specs.Basics.{lastOf, putAt};
 ghost use Rattle.format.specs.Bitpacking as packing;
-ghost use Rattle.format.specs.SkipEntry.{hasFreq, entrySize, writeEntry};
+ghost use Rattle.format.specs.SkipEntry.{hasFreq, entrySize, blockSize, writeEntry};
 ghost use Rattle.format.specs.Values.{rising};
 ghost use Rattle.format.specs.Written.{onlyIf};
 ghost use Rattle.serializer.specs.Pieces.{BlockFits, BlockPut, BlockWritten};
@@ -33,12 +35,6 @@ pub struct Places {
 pub enum Placed {
     At(Places),
     NoRoom,
-}
-
-// The widths of a block's document values and of its frequency values.
-struct Widths {
-    docs: u8,
-    freqs: u8,
 }
 
 // The last of some ids, 0 where there is none.
@@ -63,16 +59,21 @@ fn freq_width(option: IndexRecordOption, values: &[u32; 128]) -> u8
     }
 }
 
-// Whether an entry and a block of so many bits fit their areas from these places on.
-fn has_room(option: IndexRecordOption, bits: u8, skips: &[u8], postings: &[u8], at: Places) -> bool
-    requires { ⌜ bits < 64 ⌝ }
+// Whether an entry and its block fit their areas from these places on.
+fn has_room(
+    option: IndexRecordOption,
+    info: BlockInfo,
+    skips: &[u8],
+    postings: &[u8],
+    at: Places,
+) -> bool
     ensures { λ r. ⌜ r ≡ and (leb (at .skips + entrySize option) (length (now (skips .entry))))
-        (leb (at .postings + 16 * bits) (length (now (postings .entry)))) ⌝ }
+        (leb (at .postings + blockSize info) (length (now (postings .entry)))) ⌝ }
 {
     if !within(at.skips, entry_size(option), skips.len()) {
         return false;
     }
-    within(at.postings, compressed_block_size(bits), postings.len())
+    within(at.postings, block_size(info), postings.len())
 }
 
 // Packs values into an area from a place on, where they fit.
@@ -86,26 +87,25 @@ fn pack_at(values: &[u32; 128], width: u8, area: &mut [u8], at: usize)
 // Writes an entry and the values of its block, documents before frequencies, where both fit; the places behind them.
 fn put_block(
     option: IndexRecordOption,
-    last_doc: u32,
+    info: BlockInfo,
     doc_values: &[u32; 128],
     freq_values: &[u32; 128],
-    widths: Widths,
     skips: &mut [u8],
     postings: &mut [u8],
     at: Places,
 ) -> Places
-    requires { ⌜ BlockFits option (widths .docs) (widths .freqs) at (now skips) (now postings) ⌝ }
-    ensures { λ r. ⌜ BlockPut (writeEntry option «last_doc» (widths .docs) (widths .freqs))
-        (packing.pack (widths .docs) (now («doc_values» .entry)) ++ packing.pack (widths .freqs) (now («freq_values» .entry)))
+    requires { ⌜ BlockFits option info at (now skips) (now postings) ⌝ }
+    ensures { λ r. ⌜ BlockPut (writeEntry option info)
+        (packing.pack (info .«doc_width») (now («doc_values» .entry)) ++ packing.pack (info .«freq_width») (now («freq_values» .entry)))
         at (now (skips .entry)) (now (postings .entry)) (now (skips .exit)) (now (postings .exit)) r ⌝ }
 {
-    let freqs_at = at.postings + compressed_block_size(widths.docs);
-    pack_at(doc_values, widths.docs, postings, at.postings);
-    pack_at(freq_values, widths.freqs, postings, freqs_at);
-    write_entry(option, last_doc, widths.docs, widths.freqs, skips, at.skips);
+    let freqs_at = at.postings + compressed_block_size(info.doc_width);
+    pack_at(doc_values, info.doc_width, postings, at.postings);
+    pack_at(freq_values, info.freq_width, postings, freqs_at);
+    write_entry(option, info, skips, at.skips);
     Places {
         skips: at.skips + entry_size(option),
-        postings: freqs_at + compressed_block_size(widths.freqs),
+        postings: freqs_at + compressed_block_size(info.freq_width),
     }
 }
 
@@ -127,21 +127,14 @@ pub(crate) fn write_block(
     reduce_docs(&mut doc_values, least);
     let mut freq_values = *freqs;
     reduce_freqs(&mut freq_values);
-    let widths = Widths {
-        docs: num_bits(&doc_values),
-        freqs: freq_width(option, &freq_values),
+    let info = BlockInfo {
+        last_doc: last_of(docs),
+        doc_width: num_bits(&doc_values),
+        strict: true,
+        freq_width: freq_width(option, &freq_values),
     };
-    if !has_room(option, widths.docs + widths.freqs, skips, postings, at) {
+    if !has_room(option, info, skips, postings, at) {
         return Placed::NoRoom;
     }
-    Placed::At(put_block(
-        option,
-        last_of(docs),
-        &doc_values,
-        &freq_values,
-        widths,
-        skips,
-        postings,
-        at,
-    ))
+    Placed::At(put_block(option, info, &doc_values, &freq_values, skips, postings, at))
 }

@@ -9,10 +9,11 @@ use lib.ListN.{length, getD, take, drop}
 use lib.Dec.{eqb, lit≤}
 use lib.Seq.{getD-drop}
 use borrow.Author.Tests.{le-leb, lt-leb}
+use Rattle.format.specs.declared.BlockInfo.{BlockInfo}
 use Rattle.format.specs.declared.IndexRecordOption.{IndexRecordOption}
 use Rattle.format.specs.declared.IndexRecordOption.the-variants.{Basic, WithFreqs}
 use Rattle.format.specs.Basics.{choose, word, le32}
-use Rattle.format.specs.SkipEntry.{entrySize, freqWidthOf, readEntry, freqPart, writeEntry}
+use Rattle.format.specs.SkipEntry.{entrySize, freqWidthOf, readEntry, freqPart, widthByte, writeEntry}
 use Rattle.skip.specs.declared.SkipEntry.the-variants.{Entry, Missing}
 use Rattle.skip.specs.Entry.{entryAt}
 
@@ -47,8 +48,8 @@ module _ (option : IndexRecordOption) (bs : List ℕ) (at : ℕ) where
   readEntry-drop = simp (getD-drop, add-zero)
 
 -- an entry is the beginning of the longest one of its fields
-pub take-entry : (option : IndexRecordOption) (last dw fw : ℕ)
-    → take (entrySize option) (le32 last ++ ((dw + 64) ∷ fw ∷ 0 ∷ 0 ∷ [])) ≡ writeEntry option last dw fw
+pub take-entry : (option : IndexRecordOption) (e : BlockInfo)
+    → take (entrySize option) (le32 (e .«last_doc») ++ (widthByte e ∷ e .«freq_width» ∷ 0 ∷ 0 ∷ [])) ≡ writeEntry option e
 unfolding entrySize le32 freqPart writeEntry
-take-entry Basic last dw fw = refl
-take-entry WithFreqs last dw fw = refl
+take-entry Basic e = refl
+take-entry WithFreqs e = refl

@@ -4,6 +4,7 @@ use mathlib.Core.List.{List}
 use Prim.Native.Nat.{ℕ, _+_}
 use lib.ListN.{length, drop}
 use lib.Dec.{leb, ltb}
+use Rattle.format.specs.declared.BlockInfo.{BlockInfo}
 use Rattle.format.specs.declared.IndexRecordOption.{IndexRecordOption}
 use Rattle.format.specs.declared.Next.{Next}
 use Rattle.format.specs.declared.Next.the-variants.{Refused}
@@ -22,11 +23,11 @@ entryAt option bs at =
 
 -- the area with an entry in it from place `at` on, where the document width has no more than its five bits and the entry fits;
 -- else the area itself
-unfoldable pub entryPut : IndexRecordOption → ℕ → ℕ → ℕ → ℕ → List ℕ → List ℕ
+unfoldable pub entryPut : IndexRecordOption → BlockInfo → ℕ → List ℕ → List ℕ
 unfolding choose
-entryPut option last dw fw at area = choose (ltb dw 32) (λ _. putAt at (writeEntry option last dw fw) area) (λ _. area)
+entryPut option e at area = choose (ltb (e .«doc_width») 32) (λ _. putAt at (writeEntry option e) area) (λ _. area)
 
 -- the place behind it; else a refusal
-unfoldable pub entryNext : IndexRecordOption → ℕ → ℕ → ℕ → ℕ → List ℕ → Next
+unfoldable pub entryNext : IndexRecordOption → BlockInfo → ℕ → List ℕ → Next
 unfolding choose
-entryNext option last dw fw at area = choose (ltb dw 32) (λ _. nextAt at (writeEntry option last dw fw) area) (λ _. Refused)
+entryNext option e at area = choose (ltb (e .«doc_width») 32) (λ _. nextAt at (writeEntry option e) area) (λ _. Refused)

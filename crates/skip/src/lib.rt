@@ -9,10 +9,10 @@ use format::IndexRecordOption;
 use format::Next;
 use format::TERMINATED;
 ghost use mathlib.Core.Path.{_≡_};
-ghost use Prim.Native.Nat.{_+_, _*_, _≤_};
+ghost use Prim.Native.Nat.{_+_, _*_, _≤_, _<_};
 ghost use lib.ListN.{length, drop};
 ghost use Rattle.format.specs.Basics.{fourBytes};
-ghost use Rattle.format.specs.SkipEntry.{hasFreq, entrySize, freqWidthOf, readEntry, blockSize, entryFits};
+ghost use Rattle.format.specs.SkipEntry.{hasFreq, entrySize, freqWidthOf, readEntry, widthByte, blockSize, entryFits};
 ghost use Rattle.format.specs.Accepted.{keptIn};
 ghost use Rattle.skip.specs.Entry.{entryAt, entryPut, entryNext};
 
@@ -97,24 +97,29 @@ pub fn read_entry(option: IndexRecordOption, skips: &[u8], at: usize) -> SkipEnt
     }
 }
 
-// Writes the entry of a strict block at place `at`. Where the document width has more than its five bits, or the entry doesn't fit,
-// nothing is written.
-pub fn write_entry(
-    option: IndexRecordOption,
-    last_doc: u32,
-    doc_width: u8,
-    freq_width: u8,
-    area: &mut [u8],
-    at: usize,
-) -> Next
-    ensures next { λ r. ⌜ r ≡ entryNext option «last_doc» «doc_width» «freq_width» at (now (area .entry)) ⌝ }
-    ensures area { λ _. ⌜ now (area .exit) ≡ entryPut option «last_doc» «doc_width» «freq_width» at (now (area .entry)) ⌝ }
+// The document width, with the bit of a strict block.
+fn width_byte(info: BlockInfo) -> u8
+    requires { ⌜ info .«doc_width» < 32 ⌝ }
+    ensures { λ r. ⌜ r ≡ widthByte info ⌝ }
 {
-    if 32 <= doc_width {
+    if info.strict {
+        info.doc_width + 64
+    } else {
+        info.doc_width
+    }
+}
+
+// Writes an entry at place `at`. Where the document width has more than its five bits, or the entry doesn't fit, nothing is written.
+pub fn write_entry(option: IndexRecordOption, info: BlockInfo, area: &mut [u8], at: usize) -> Next
+    ensures next { λ r. ⌜ r ≡ entryNext option info at (now (area .entry)) ⌝ }
+    ensures area { λ _. ⌜ now (area .exit) ≡ entryPut option info at (now (area .entry)) ⌝ }
+{
+    if 32 <= info.doc_width {
         return Next::Refused;
     }
-    let last = u32_to_le_bytes(last_doc);
-    let width = doc_width + 64;
+    let last = u32_to_le_bytes(info.last_doc);
+    let width = width_byte(info);
+    let freq_width = info.freq_width;
     let bytes = [last[0], last[1], last[2], last[3], width, freq_width, 0, 0];
     let size = entry_size(option);
     put(&bytes[..size], area, at)

@@ -11,13 +11,14 @@ use lib.Dec.{leb}
 use lib.ListN.{length, getD, take, drop, length-append, length-drop, drop-of-length-le}
 use lib.Seq.{take-all, drop-drop}
 use borrow.Author.Tests.{le-leb, lt-ltb, leb-true}
+use Rattle.format.specs.declared.BlockInfo.{BlockInfo}
 use Rattle.format.specs.declared.IndexRecordOption.{IndexRecordOption}
 use Rattle.format.specs.declared.IndexRecordOption.the-variants.{Basic, WithFreqs}
 use Rattle.format.specs.Basics.{choose, tabulate, tabulateFrom, lastOf, fitsAt, putAt}
 use Rattle.format.specs.Bitpacking.{pack, bitsF, largest, width}
 use Rattle.format.specs.Values.{gaps, reduced, rising}
-use Rattle.format.specs.Written.{onlyIf, docValues, freqValues, entryOf, blockOf}
-use Rattle.format.specs.SkipEntry.{hasFreq, entrySize, writeEntry}
+use Rattle.format.specs.Written.{onlyIf, docValues, freqValues, infoOf, entryOf, blockOf}
+use Rattle.format.specs.SkipEntry.{hasFreq, entrySize, blockSize, writeEntry}
 use Rattle.bitpacking.specs.Packed.{roomFor, Packed}
 use Rattle.skip.specs.Entry.{entryPut}
 use Rattle.serializer.specs.declared.block.Placed.the-variants.{At, NoRoom}
@@ -72,26 +73,29 @@ packed-part p w vs area after done narrow h packed =
     rw (packed .bytes, le-leb _ _ narrow, le-leb _ _ room) (putAt-part p (pack w vs) area (rw pack-length h))
 
 -- the entry of a block whose document width has five bits
-pub entry-put : (option : IndexRecordOption) (last dw fw p : ℕ) (area : List ℕ) → dw < 32
-    → entryPut option last dw fw p area ≡ putAt p (writeEntry option last dw fw) area
+pub entry-put : (option : IndexRecordOption) (info : BlockInfo) (p : ℕ) (area : List ℕ) → info .«doc_width» < 32
+    → entryPut option info p area ≡ putAt p (writeEntry option info) area
 unfolding entryPut choose
-entry-put option last dw fw p area narrow = rw (lt-ltb dw 32 narrow)
+entry-put option info p area narrow = rw (lt-ltb (info .«doc_width») 32 narrow)
 
 -- a block's values and its entry, put one behind the other
-pub block-put : (option : IndexRecordOption) (last dw fw : ℕ) (at : Places) (dv fv skips postings : List ℕ) {skips′ middle postings′ : List ℕ} {n a b : ℕ}
-    → BlockFits option dw fw at skips postings → n ≡ entrySize option → a ≡ 16 * dw → b ≡ 16 * fw
-    → skips′ ≡ entryPut option last dw fw (at .skips) skips → middle ≡ putAt (at .postings) (pack dw dv) postings
-    → postings′ ≡ putAt (at .postings + a) (pack fw fv) middle
-    → BlockPut (writeEntry option last dw fw) (pack dw dv ++ pack fw fv) at skips postings skips′ postings′
+pub block-put : (option : IndexRecordOption) (info : BlockInfo) (at : Places) (dv fv skips postings : List ℕ) {skips′ middle postings′ : List ℕ} {n a b : ℕ}
+    → BlockFits option info at skips postings → n ≡ entrySize option → a ≡ 16 * info .«doc_width» → b ≡ 16 * info .«freq_width»
+    → skips′ ≡ entryPut option info (at .skips) skips → middle ≡ putAt (at .postings) (pack (info .«doc_width») dv) postings
+    → postings′ ≡ putAt (at .postings + a) (pack (info .«freq_width») fv) middle
+    → BlockPut (writeEntry option info) (pack (info .«doc_width») dv ++ pack (info .«freq_width») fv) at skips postings skips′ postings′
     (record { skips = at .skips + n; postings = at .postings + a + b })
-block-put option last dw fw at dv fv skips postings fits n-is a-is b-is entry docs freqs =
+unfolding blockSize
+block-put option info at dv fv skips postings fits n-is a-is b-is entry docs freqs =
+    let dw : ℕ = info .«doc_width» in
+    let fw : ℕ = info .«freq_width» in
     let docs-length = pack-length dw dv in
     let freqs-length = pack-length fw fv in
     let both = length-append (pack dw dv) (pack fw fv) in
     let room : at .postings + length (pack dw dv ++ pack fw fv) ≤ length postings = omega (arith, fits .postings-room) in
     record {
       placed = ap₂ (λ (p q : ℕ). record { skips = p; postings = q }) (rw (n-is, entry-length)) (omega arith);
-      skips-after = entry ∙ entry-put option last dw fw (at .skips) skips (fits .doc-width);
+      skips-after = entry ∙ entry-put option info (at .skips) skips (fits .doc-width);
       postings-after = freqs ∙ rw (docs, a-is, ← docs-length) (putAt-append (at .postings) (pack dw dv) (pack fw fv) postings room);
     }
 
@@ -107,7 +111,7 @@ freqs-pack WithFreqs fs = refl
 module _ (option : IndexRecordOption) (least : ℕ) (ds fs : List ℕ) where
   pub entryOf-length : length (entryOf option least ds fs) ≡ entrySize option
   unfolding entryOf
-  entryOf-length = entry-length option (lastOf 0 ds) (width (docValues least ds)) (width (freqValues option fs))
+  entryOf-length = entry-length option (infoOf option least ds fs)
 
   pub blockOf-length : length (blockOf option least ds fs) ≡ 16 * (width (docValues least ds) + width (freqValues option fs))
   unfolding blockOf
@@ -123,47 +127,49 @@ module _ (option : IndexRecordOption) (least : ℕ) (ds fs : List ℕ) where
   block-refused at skips postings short = record { placed = rw short; skips-after = rw short; postings-after = rw short }
 
   -- values and widths as code has them
-  pub record Valued (dv fv : List ℕ) (dw fw : ℕ) : Type 0 where
+  pub record Valued (dv fv : List ℕ) (info : BlockInfo) : Type 0 where
     pub docs : dv ≡ docValues least ds
     pub freqs : fv ≡ reduced true fs
-    pub doc-width : dw ≡ width (docValues least ds)
-    pub freq-width : fw ≡ width (freqValues option fs)
+    pub info-is : info ≡ infoOf option least ds fs
 
-  module _ {dv fv : List ℕ} {dw fw : ℕ} (v : Valued dv fv dw fw) where
+  pub values-are : {dv fv : List ℕ} {last dw fw : ℕ} → dv ≡ docValues least ds → fv ≡ reduced true fs
+      → last ≡ lastOf 0 ds → dw ≡ width dv → fw ≡ width (onlyIf (hasFreq option) fv)
+      → Valued dv fv (record { «last_doc» = last; «doc_width» = dw; strict = true; «freq_width» = fw })
+  unfolding infoOf freqValues
+  values-are docs-are freqs-are last-is dw-is fw-is =
+      record { docs = docs-are; freqs = freqs-are; info-is = rw (last-is, dw-is, docs-are, fw-is, freqs-are) }
+
+  module _ {dv fv : List ℕ} {info : BlockInfo} (v : Valued dv fv info) where
     -- gaps lie below 2 ^ 31
-    pub valued-narrow : rising least ds ≡ true → (dw < 32) × (fw ≤ 32)
-    unfolding docValues
+    valued-narrow : rising least ds ≡ true → (info .«doc_width» < 32) × (info .«freq_width» ≤ 32)
+    unfolding docValues infoOf
     valued-narrow r =
         let below = allBelow-le {k = 2 ^ 31} (gaps true least ds) (omega arith) (gaps-below true least ds r) in
-        (rw (v .doc-width) (suc-le-suc (width-least (gaps true least ds) 31 below)), rw (v .freq-width) (width-le (freqValues option fs)))
+        rw (v .info-is) (suc-le-suc (width-least (gaps true least ds) 31 below), width-le (freqValues option fs))
 
-    valued-entry : {last : ℕ} → last ≡ lastOf 0 ds → writeEntry option last dw fw ≡ entryOf option least ds fs
-    unfolding entryOf
-    valued-entry last-is = rw (last-is, v .doc-width, v .freq-width)
-
-    valued-block : pack dw dv ++ pack fw fv ≡ blockOf option least ds fs
-    unfolding blockOf
-    valued-block = rw (v .docs, v .freqs, v .doc-width, v .freq-width, freqs-pack option fs)
+    valued-block : pack (info .«doc_width») dv ++ pack (info .«freq_width») fv ≡ blockOf option least ds fs
+    unfolding blockOf infoOf
+    valued-block = rw (v .docs, v .freqs, v .info-is, freqs-pack option fs)
 
     module _ (at : Places) (skips postings : List ℕ) where
       -- whether both fit is told from the option and the widths
       pub valued-fits : blockFits option least ds fs at skips postings
-          ≡ and (leb (at .skips + entrySize option) (length skips)) (leb (at .postings + 16 * (dw + fw)) (length postings))
-      unfolding blockFits
-      valued-fits = rw (entryOf-length, blockOf-length, v .doc-width, v .freq-width)
+          ≡ and (leb (at .skips + entrySize option) (length skips)) (leb (at .postings + blockSize info) (length postings))
+      unfolding blockFits blockSize infoOf
+      valued-fits = rw (entryOf-length, blockOf-length, v .info-is)
 
       pub valued-room : rising least ds ≡ true
-          → and (leb (at .skips + entrySize option) (length skips)) (leb (at .postings + 16 * (dw + fw)) (length postings)) ≡ true
-          → BlockFits option dw fw at skips postings
+          → and (leb (at .skips + entrySize option) (length skips)) (leb (at .postings + blockSize info) (length postings)) ≡ true
+          → BlockFits option info at skips postings
       valued-room r room =
           let narrow = valued-narrow r in
-          let both = and-eq-true-iff (leb (at .skips + entrySize option) (length skips)) (leb (at .postings + 16 * (dw + fw)) (length postings)) .0 room in
+          let both = and-eq-true-iff (leb (at .skips + entrySize option) (length skips)) (leb (at .postings + blockSize info) (length postings)) .0 room in
           record { doc-width = narrow .0; freq-width = narrow .1; skips-room = leb-true _ _ (both .0); postings-room = leb-true _ _ (both .1) }
 
-      pub block-written : {skips′ postings′ : List ℕ} {r : Places} {last : ℕ} → blockFits option least ds fs at skips postings ≡ true → last ≡ lastOf 0 ds
-          → BlockPut (writeEntry option last dw fw) (pack dw dv ++ pack fw fv) at skips postings skips′ postings′ r
+      pub block-written : {skips′ postings′ : List ℕ} {r : Places} → blockFits option least ds fs at skips postings ≡ true
+          → BlockPut (writeEntry option info) (pack (info .«doc_width») dv ++ pack (info .«freq_width») fv) at skips postings skips′ postings′ r
           → BlockWritten option least ds fs at skips postings skips′ postings′ (At r)
-      unfolding choose
-      block-written room last-is put =
-          let own = rw (valued-entry last-is, valued-block) at put in
+      unfolding choose entryOf
+      block-written room put =
+          let own = rw (valued-block, v .info-is) at put in
           record { placed = rw room (ap At (own .placed)); skips-after = rw room (own .skips-after); postings-after = rw room (own .postings-after) }

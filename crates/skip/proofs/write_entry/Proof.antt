@@ -20,26 +20,26 @@ returns c = (rw (le-ltb _ _ (c .if1 .taken)), rw (le-ltb _ _ (c .if1 .taken)))
 u32-to-le-bytes-requires : tie.Need-u32-to-le-bytes-requires
 u32-to-le-bytes-requires c κs = search needs
 
-add-width : tie.Need-add-width
-add-width c = search needs
+width-byte-requires : tie.Need-width-byte-requires
+width-byte-requires c κs = search needs
 
-array-read-t15 : tie.Need-array-read-t15
-array-read-t15 c = search needs
+array-read-t14 : tie.Need-array-read-t14
+array-read-t14 c = search needs
 
-array-read-t18 : tie.Need-array-read-t18
-array-read-t18 c = search needs
+array-read-t17 : tie.Need-array-read-t17
+array-read-t17 c = search needs
 
-array-read-t21 : tie.Need-array-read-t21
-array-read-t21 c = search needs
+array-read-t20 : tie.Need-array-read-t20
+array-read-t20 c = search needs
 
-array-read-t24 : tie.Need-array-read-t24
-array-read-t24 c = search needs
+array-read-t23 : tie.Need-array-read-t23
+array-read-t23 c = search needs
 
 entry-size-requires : tie.Need-entry-size-requires
 entry-size-requires c κs = search needs
 
 array-share-prefix-bytes : tie.Need-array-share-prefix-bytes
-array-share-prefix-bytes c = omega (arith, size-most (c .before .before .before .before .args .option))
+array-share-prefix-bytes c = omega (arith, size-most (c .before .before .before .before .before .before .args .option))
 
 slice-aggregate-put : tie.Need-slice-aggregate-put
 slice-aggregate-put c = sym (length-take-le (c .before .entry-size .result) _ (array-share-prefix-bytes (c .before)))
@@ -54,13 +54,14 @@ returns-2 : tie.Need-returns-2
 unfolding choose le32 entryNext entryPut
 returns-2 c =
     let sized = c .before .before .before .before .before in
-    let told = sized .before in
-    let a = told .before .before .before .args in
-    let narrow : ltb (a .doc-width) 32 ≡ true = lt-ltb _ _ (told .before .if1 .left) in
+    let byte = sized .before in
+    let told = byte .before in
+    let a = told .before .before .before .before .args in
+    let narrow : ltb (a .info .«doc_width») 32 ≡ true = lt-ltb _ _ (told .before .if1 .left) in
     let put = c .before .before .put .ensures in
-    let entry = take-entry (a .option) (a .last-doc) (a .doc-width) (a .freq-width) in (
-      rw narrow (put .0 ∙ rw (told .u32-to-le-bytes .ensures, sized .entry-size .ensures, entry)),
-      rw narrow (put .1 ∙ rw (told .u32-to-le-bytes .ensures, sized .entry-size .ensures, entry)),
+    let entry = take-entry (a .option) (a .info) in (
+      rw narrow (put .0 ∙ rw (told .u32-to-le-bytes .ensures, byte .width-byte .ensures, sized .entry-size .ensures, entry)),
+      rw narrow (put .1 ∙ rw (told .u32-to-le-bytes .ensures, byte .width-byte .ensures, sized .entry-size .ensures, entry)),
     )
 
 pub write-entry-spec : {M : Type 1} → statement M
@@ -69,11 +70,11 @@ write-entry-spec =
     (tie.spec
     returns
     u32-to-le-bytes-requires
-    add-width
-    array-read-t15
-    array-read-t18
-    array-read-t21
-    array-read-t24
+    width-byte-requires
+    array-read-t14
+    array-read-t17
+    array-read-t20
+    array-read-t23
     entry-size-requires
     array-share-prefix-bytes
     slice-aggregate-put

@@ -17,8 +17,8 @@ returns c =
     let fits = rw (c .before .before .entry-size .ensures) at (c .before .within .ensures) in
     rw (sym fits ∙ not-true _ (c .if1 .taken))
 
-compressed-block-size-requires : tie.Need-compressed-block-size-requires
-compressed-block-size-requires c κs = search needs
+block-size-requires : tie.Need-block-size-requires
+block-size-requires c κs = search needs
 
 within-requires-2 : tie.Need-within-requires-2
 within-requires-2 c κs = search needs
@@ -27,7 +27,7 @@ returns-2 : tie.Need-returns-2
 returns-2 c =
     let entry = c .before .before .before in
     let fits = rw (entry .before .entry-size .ensures) at (entry .within .ensures) in
-    rw (sym fits ∙ not-false _ (c .before .before .if1 .left), ← c .before .compressed-block-size .ensures) (c .within2 .ensures)
+    rw (sym fits ∙ not-false _ (c .before .before .if1 .left), ← c .before .block-size .ensures) (c .within2 .ensures)
 
 pub has-room-spec : {M : Type 1} → statement M
 has-room-spec =
@@ -36,6 +36,6 @@ has-room-spec =
     entry-size-requires
     within-requires
     returns
-    compressed-block-size-requires
+    block-size-requires
     within-requires-2
     returns-2)

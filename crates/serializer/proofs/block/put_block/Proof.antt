@@ -2,6 +2,7 @@
 -- Assumes nothing.
 use Rattle.serializer.proofs.block.BlockPlaced.{block-put}
 use borrow.Author.Needs.{needs}
+use Rattle.format.specs.SkipEntry.{blockSize}
 use Rattle.serializer.proofs.block.put_block.Statement.{statement}
 use Rattle.serializer.proofs.block.put_block.Tie as tie
 
@@ -12,9 +13,11 @@ add-freqs-at : tie.Need-add-freqs-at
 add-freqs-at c = search needs
 
 pack-at-requires : tie.Need-pack-at-requires
+unfolding blockSize
 pack-at-requires c κs = search needs
 
 pack-at-requires-2 : tie.Need-pack-at-requires-2
+unfolding blockSize
 pack-at-requires-2 c κs = search needs
 
 write-entry-requires : tie.Need-write-entry-requires
@@ -23,14 +26,14 @@ write-entry-requires c κs = search needs
 entry-size-requires : tie.Need-entry-size-requires
 entry-size-requires c κs = search needs
 
-add-t19 : tie.Need-add-t19
-add-t19 c = search needs
+add-t18 : tie.Need-add-t18
+add-t18 c = search needs
 
 compressed-block-size-requires-2 : tie.Need-compressed-block-size-requires-2
 compressed-block-size-requires-2 c κs = search needs
 
-add-t21 : tie.Need-add-t21
-add-t21 c = search needs
+add-t20 : tie.Need-add-t20
+add-t20 c = search needs
 
 same-length : tie.Need-same-length
 same-length c = search needs
@@ -46,7 +49,7 @@ returns c =
     let sized = docs .before .before .before in
     let start = sized .before .before .before in
     let a = start .args in
-    block-put (a .option) (a .last-doc) (a .widths .docs) (a .widths .freqs) (a .at) _ _ _ _
+    block-put (a .option) (a .info) (a .at) _ _ _ _
     (start .pre) (c .before .before .entry-size .ensures) (sized .compressed-block-size .ensures) (c .compressed-block-size2 .ensures)
     (entry .write-entry .ensures .1) (docs .pack-at .ensures) (freqs .pack-at2 .ensures)
 
@@ -60,9 +63,9 @@ put-block-spec =
     pack-at-requires-2
     write-entry-requires
     entry-size-requires
-    add-t19
+    add-t18
     compressed-block-size-requires-2
-    add-t21
+    add-t20
     same-length
     same-length-2
     returns)
