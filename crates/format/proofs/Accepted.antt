@@ -14,9 +14,18 @@ use Rattle.format.specs.Basics.{ok, lastOf, TERMINATED, AllBelow}
 use Rattle.format.specs.SkipEntry.{hasFreq}
 use Rattle.format.specs.Values.{rising, countable}
 use Rattle.format.specs.Written.{image}
-use Rattle.format.specs.Accepted.{keptIn, begin, takeDoc, takeDocs, written, Accepted}
+use Rattle.format.specs.Accepted.{knownMode, keptIn, begin, takeDoc, takeDocs, written, Accepted}
 use Rattle.format.proofs.Values.{rising-cons, rising-take, rising-drop, countable-take, countable-drop}
 use Rattle.format.proofs.Outcome.{refused≢ok, ok-same, ask-ok, andThen-ok}
+
+-- a known mode is at most 1, and one that is at most 1 is known
+pub known-mode : (mode : ℕ) → mode ≤ 1 → knownMode mode ≡ true
+unfolding knownMode
+known-mode mode h = le-leb mode 1 h
+
+pub known-most : (mode : ℕ) → knownMode mode ≡ true → mode ≤ 1
+unfolding knownMode
+known-most mode h = leb-true mode 1 h
 
 rising-length : (least : ℕ) (ds : List ℕ) → least ≤ TERMINATED → rising least ds ≡ true → least + length ds ≤ TERMINATED
 rising-length least [] h r = omega arith
@@ -103,7 +112,7 @@ written-ok mode recording ds fs small e =
     let r = ask-ok _ _ _ (p .2) in
     let s = andThen-ok _ _ (r .1) in
     record {
-      mode-known = leb-true mode 1 (q .0);
+      mode-known = known-most mode (q .0);
       accepted = rw (← option) at (takeDocs-ok _ 0 ds fs small (eqb-true _ _ (r .0)) (s .1));
       bytes = rw option (sym (ok-same (s .2)));
     }

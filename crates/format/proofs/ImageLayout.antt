@@ -22,6 +22,7 @@ use Rattle.format.specs.Accepted.{keptIn}
 use Rattle.format.specs.declared.Term.{Term}
 use Rattle.format.specs.Layout.{fullBlocks, split, layout, skipBytes, postingBytes}
 use Rattle.format.specs.declared.Layout.{Layout}
+use Rattle.format.proofs.Accepted.{known-mode}
 use Rattle.format.proofs.Vints.{skip-length-reads-back}
 use Rattle.format.proofs.SkipEntry.{entry-length}
 use Rattle.format.proofs.ImageParts.{parts, headed, withBlock-skips, parts-zero, parts-suc, headed-suc}
@@ -58,7 +59,7 @@ module _ (t : Term) (mode-known : t .mode ≤ 1) (requested-known : t .requested
   pub layout-alone : (bs : List ℕ) → fullBlocks t ≡ 0
       → layout t bs ≡ ok (record { option = keptIn (t .mode) true; skips = 0; postings = 0 })
   unfolding ask choose
-  layout-alone bs e = rw (layout-is, le-leb _ _ mode-known, le-leb _ _ requested-known, le-leb _ _ few, e)
+  layout-alone bs e = rw (layout-is, known-mode _ mode-known, le-leb _ _ requested-known, le-leb _ _ few, e)
 
   module _ (recording : Bool) (n : ℕ) (p : Parts) (e : fullBlocks t ≡ suc n)
       (l : length (p .skips) ≡ entrySize (keptIn (t .mode) recording) * suc n) where
@@ -83,7 +84,7 @@ module _ (t : Term) (mode-known : t .mode ≤ 1) (requested-known : t .requested
     pub layout-headed : layout t (headed (suc n) p) ≡ ok (found (length (vint (length (p .skips)))))
     unfolding ask choose
     layout-headed =
-        rw (layout-is, le-leb _ _ mode-known, le-leb _ _ requested-known, le-leb _ _ few, e, eqb·suc-zero)
+        rw (layout-is, known-mode _ mode-known, le-leb _ _ requested-known, le-leb _ _ few, e, eqb·suc-zero)
         (rw (headed-suc, skip-length-reads-back _ _ skips-below, split-parts))
 
     -- .. are the parts

@@ -17,7 +17,7 @@ use Rattle.format.specs.Vint.{skipLength, tailNumbers}
 use Rattle.format.specs.Bitpacking.{unpack}
 use Rattle.format.specs.Values.{ids, restored, rising, countable}
 use Rattle.format.specs.SkipEntry.{hasFreq, entrySize, readEntry, blockSize, entryFits}
-use Rattle.format.specs.Accepted.{keptIn}
+use Rattle.format.specs.Accepted.{knownMode, keptIn}
 use Rattle.format.specs.declared.Term.{Term}
 use Rattle.format.specs.Layout.{fullBlocks, tailLength, sized, split, layout, skipBytes, postingBytes}
 use Rattle.format.specs.declared.Layout.{Layout}
@@ -45,7 +45,7 @@ split-number t bs size used = refl
 
 pub layout-is : (t : Term) (bs : List ℕ)
     → layout t bs
-    ≡ (ask (and (leb (t .mode) 1) (leb (t .requested) 2)) unknownMode λ _.
+    ≡ (ask (and (knownMode (t .mode)) (leb (t .requested) 2)) unknownMode λ _.
     ask (leb (t .count) TERMINATED) countTooLarge λ _.
     choose (eqb (fullBlocks t) 0)
     (λ _. ok (record { option = keptIn (t .mode) true; skips = 0; postings = 0 }))

@@ -14,6 +14,10 @@ use Rattle.format.specs.SkipEntry.{hasFreq}
 use Rattle.format.specs.Values.{rising, countable}
 use Rattle.format.specs.Written.{image}
 
+-- question 1 of a recorded mode: it is 0 or 1
+unfoldable pub knownMode : ℕ → Bool
+knownMode mode = leb mode 1
+
 -- frequencies are kept if the mode is 1 and the caller records them
 unfoldable pub keptIn : ℕ → Bool → IndexRecordOption
 unfolding choose
@@ -21,8 +25,8 @@ keptIn mode recording = choose (and (eqb mode 1) recording) (λ _. WithFreqs) (�
 
 -- question 1, when a term begins
 unfoldable pub begin : ℕ → Bool → Outcome IndexRecordOption
-unfolding ask keptIn
-begin mode recording = ask (leb mode 1) unknownMode λ _. ok (keptIn mode recording)
+unfolding ask knownMode keptIn
+begin mode recording = ask (knownMode mode) unknownMode λ _. ok (keptIn mode recording)
 
 -- questions 11 to 13, of one document; the least id that may come after it
 unfoldable pub takeDoc : IndexRecordOption → ℕ → ℕ → ℕ → Outcome ℕ

@@ -14,7 +14,7 @@ use Rattle.format.specs.Basics.{Outcome, ok, refused, ask, choose, TERMI
 use Rattle.format.specs.Refusal.{unknownMode, countTooLarge, skipLengthBroken, skipLengthWrong}
 use Rattle.format.specs.Vint.{skipLength}
 use Rattle.format.specs.SkipEntry.{entrySize}
-use Rattle.format.specs.Accepted.{keptIn}
+use Rattle.format.specs.Accepted.{knownMode, keptIn}
 
 -- F of document 01
 unfoldable pub fullBlocks : Term → ℕ
@@ -46,9 +46,9 @@ split t bs (Number size used) = ask (leb size (length bs - used)) skipLengthBrok
 
 -- questions 1 to 4
 unfoldable pub layout : Term → List ℕ → Outcome Layout
-unfolding ask choose fullBlocks split skipLength keptIn
+unfolding ask choose fullBlocks split skipLength knownMode keptIn
 layout t bs =
-    ask (and (leb (t .mode) 1) (leb (t .requested) 2)) unknownMode λ _.
+    ask (and (knownMode (t .mode)) (leb (t .requested) 2)) unknownMode λ _.
     ask (leb (t .count) TERMINATED) countTooLarge λ _.
     choose (eqb (fullBlocks t) 0)
     (λ _. ok (record { option = keptIn (t .mode) true; skips = 0; postings = 0 }))

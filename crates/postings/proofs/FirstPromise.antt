@@ -11,7 +11,7 @@ use mathlib.Core.Logic.{_↔_}
 use mathlib.Core.Path.{_≡_, refl, sym, ap, _∙_}
 use Prim.Native.Nat.{ℕ, _+_, _≤_, _<_, _^_}
 use native.Mathlib.Omega.{arith}
-use borrow.Author.Tests.{le-leb, eq-eqb}
+use borrow.Author.Tests.{eq-eqb}
 use lib.Dec.{leb, ltb}
 use lib.ListN.{length}
 use Rattle.format.specs.declared.IndexRecordOption.{IndexRecordOption}
@@ -21,7 +21,7 @@ use Rattle.format.specs.Values.{rising, countable}
 use Rattle.format.specs.Written.{image}
 use Rattle.format.specs.Accepted.{keptIn, begin, takeDoc, takeDocs, written, Accepted}
 use Rattle.format.specs.Reading.{soundness}
-use Rattle.format.proofs.Accepted.{written-ok}
+use Rattle.format.proofs.Accepted.{known-mode, written-ok}
 use Rattle.format.proofs.Choice.{granted}
 use Rattle.serializer.specs.declared.Accepted.the-variants.{Refused as No}
 use Rattle.serializer.specs.declared.ClosedTerm.{ClosedTerm}
@@ -71,7 +71,7 @@ accepted-written : (mode : ℕ) (recording : Bool) (ds fs : List ℕ) → mode �
 unfolding written begin andThen ask
 accepted-written mode recording ds fs known a =
     let p = all-taken (keptIn mode recording) 0 ds fs a in
-    rw (le-leb mode 1 known, eq-eqb (length ds) (length fs) (a .as-many), p .1)
+    rw (known-mode mode known, eq-eqb (length ds) (length fs) (a .as-many), p .1)
 
 module _ (mode : ℕ) (recording : Bool) (ds fs skips postings output : List ℕ) (small : AllBelow (2 ^ 32) fs) where
   pub listed-acceptable : {bytes : List ℕ} → listing mode recording ds fs skips postings output ≡ ok bytes

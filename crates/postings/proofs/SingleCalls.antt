@@ -21,7 +21,7 @@ use Rattle.format.specs.ReadsBack.{readFreqs, ReadsBack}
 use Rattle.format.specs.SkipEntry.{hasFreq}
 use Rattle.format.specs.Written.{image}
 use Rattle.format.proofs.Area.{take-putAt-front}
-use Rattle.format.proofs.Accepted.{takeDoc-ok, written-ok}
+use Rattle.format.proofs.Accepted.{known-mode, known-most, takeDoc-ok, written-ok}
 use Rattle.format.proofs.Outcome.{ok-same, ask-ok, andThen-ok}
 use Rattle.format.proofs.ReadsBack.{reads-back, written-sound}
 use Rattle.serializer.specs.declared.Accepted.{Accepted}
@@ -179,7 +179,7 @@ module _ (mode : ℕ) (recording : Bool) (skips postings : List ℕ) (known : mo
       closed-written : written mode recording ids freqs ≡ ok (take n output′)
       unfolding written begin andThen ask
       closed-written =
-          rw (le-leb mode 1 known, eq-eqb (length ids) (length freqs) (taken-many answers ds fs (handed-many handed)), behind .docs-accepted, closed-bytes)
+          rw (known-mode mode known, eq-eqb (length ids) (length freqs) (taken-many answers ds fs (handed-many handed)), behind .docs-accepted, closed-bytes)
 
       -- .. what `write_list` writes of them
       pub closed-listed : listing mode recording ids freqs skips postings output ≡ ok (image option ids freqs)
@@ -249,11 +249,11 @@ module _ (mode : ℕ) (recording : Bool) (ds fs : List ℕ) (announced : ℕ) (s
 
   begins-known : t .begun .answer ≡ Yes → mode ≤ 1
   unfolding beginning begin
-  begins-known granted = leb-true mode 1 (ask-ok _ _ _ (accepted-yes (begin mode recording) (ap (λ s. s .answer) (t .begins)) granted .1) .0)
+  begins-known granted = known-most mode (ask-ok _ _ _ (accepted-yes (begin mode recording) (ap (λ s. s .answer) (t .begins)) granted .1) .0)
 
   known-begins : mode ≤ 1 → t .begun .answer ≡ Yes
   unfolding beginning begin ask accepted
-  known-begins known = ap (λ s. s .answer) (t .begins) ∙ rw (le-leb mode 1 known)
+  known-begins known = ap (λ s. s .answer) (t .begins) ∙ rw (known-mode mode known)
 
   begun-fresh : t .begun .state ≡ fresh mode recording
   unfolding beginning

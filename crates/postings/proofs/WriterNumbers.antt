@@ -13,7 +13,7 @@ use Rattle.format.specs.Basics.{Outcome, ok, refused, andThen, ask, fitsAt, TER
 use Rattle.format.specs.Refusal.{unknownMode, idTooLarge, idNotRising, freqZero, countMismatch, noRoom, stateBroken}
 use Rattle.format.specs.SkipEntry.{hasFreq}
 use Rattle.format.specs.Written.{Parts, blocksOf, image}
-use Rattle.format.specs.Accepted.{keptIn, begin, takeDoc, takeDocs, written}
+use Rattle.format.specs.Accepted.{knownMode, keptIn, begin, takeDoc, takeDocs, written}
 use Rattle.format.proofs.Outcome.{Numbered, ask-numbered, andThen-numbered}
 use Rattle.serializer.specs.declared.Accepted.{Accepted}
 use Rattle.serializer.specs.declared.Accepted.the-variants.{Yes, Refused as No}
@@ -45,7 +45,7 @@ takeDocs-numbered option least (d ∷ ds) (f ∷ fs) =
 
 pub begin-numbered : (mode : ℕ) (recording : Bool) → Numbered (begin mode recording)
 unfolding begin
-begin-numbered mode recording = ask-numbered {A = IndexRecordOption} (leb mode 1) unknownMode (λ _. ok (keptIn mode recording)) (omega arith) tt
+begin-numbered mode recording = ask-numbered {A = IndexRecordOption} (knownMode mode) unknownMode (λ _. ok (keptIn mode recording)) (omega arith) tt
 
 module _ (ds fs : List ℕ) where
   -- the image of documents that are taken

@@ -10,6 +10,7 @@ use format::Term;
 use format::UNKNOWN_MODE;
 use format::VInt;
 use skip::entry_size;
+use skip::known_mode;
 use skip::record_option;
 use vint::read_vint_u64;
 ghost use mathlib.Core.Path.{_≡_};
@@ -83,7 +84,7 @@ fn lay_out_entries(term: Term, skips: usize, postings: usize) -> Laid
 pub(crate) fn lay_out(image: &[u8], term: Term) -> Laid
     ensures { λ r. ⌜ r ≡ laid (layout term (now (image .entry))) ⌝ }
 {
-    if 1 < term.mode || 2 < term.requested {
+    if !known_mode(term.mode) || 2 < term.requested {
         return Laid::Refused(UNKNOWN_MODE);
     }
     if TERMINATED < term.count {

@@ -11,7 +11,7 @@ use Rattle.format.specs.Refusal.{countMismatch, noRoom, stateBroken}
 use Rattle.format.specs.Values.{rising, countable}
 use Rattle.format.specs.SkipEntry.{hasFreq}
 use Rattle.format.specs.Written.{entryOf, blockOf, Parts, blocksOf, imageWith}
-use Rattle.format.specs.Accepted.{keptIn, takeDoc, written}
+use Rattle.format.specs.Accepted.{knownMode, keptIn, takeDoc, written}
 use Rattle.serializer.specs.declared.block.Places.{Places}
 use Rattle.serializer.specs.declared.PostingsSerializer.{PostingsSerializer}
 
@@ -54,14 +54,14 @@ leastAfter least (d ∷ ds) = lastOf d ds + 1
 -- question 16: at most 127 documents wait, their ids strictly rising, below TERMINATED and above the last block's last id, their
 -- kept frequencies at least 1; at most 2147483647 are taken; the areas reach no further than their slices; the mode is 0 or 1
 unfoldable pub boundsHold : PostingsSerializer → ℕ → ℕ → Bool
-unfolding rising countable hasFreq optionOf waitingDocs waitingFreqs firstLeast
+unfolding rising countable hasFreq knownMode optionOf waitingDocs waitingFreqs firstLeast
 boundsHold s skips postings =
     and (leb (s .waiting) 127)
     (and (rising (firstLeast s) (waitingDocs s))
     (and (or (not (hasFreq (optionOf s))) (countable (waitingFreqs s)))
     (and (leb (s .taken) TERMINATED)
     (and (and (leb (s .«skips_at») skips) (leb (s .«postings_at») postings))
-    (leb (s .mode) 1)))))
+    (knownMode (s .mode))))))
 
 unfoldable pub inBounds : PostingsSerializer → List ℕ → List ℕ → Bool
 unfolding boundsHold

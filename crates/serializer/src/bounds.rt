@@ -3,6 +3,7 @@
 use crate::PostingsSerializer;
 use format::TERMINATED;
 use skip::has_freq;
+use skip::known_mode;
 use skip::record_option;
 ghost use mathlib.Core.Path.{_≡_};
 ghost use mathlib.Core.Bool.{not, _||_ as or};
@@ -97,5 +98,5 @@ pub(crate) fn in_bounds(state: PostingsSerializer, skips: usize, postings: usize
     if postings < state.postings_at {
         return false;
     }
-    state.mode <= 1
+    known_mode(state.mode)
 }

@@ -15,6 +15,7 @@ use format::STATE_BROKEN;
 use format::UNKNOWN_MODE;
 pub use list::ask_list;
 pub use list::write_list;
+use skip::known_mode;
 ghost use mathlib.Core.Path.{_≡_};
 ghost use Rattle.serializer.specs.Calls.{beginning, Took, Closed};
 ghost use Rattle.serializer.specs.Writer as specs;
@@ -84,7 +85,7 @@ pub fn new_term(mode: u8, recording: bool) -> Step
     ensures { λ r. ⌜ r ≡ beginning mode recording ⌝ }
 {
     let state = fresh(mode, recording);
-    if 1 < mode {
+    if !known_mode(mode) {
         return Step {
             answer: Accepted::Refused(UNKNOWN_MODE),
             state,

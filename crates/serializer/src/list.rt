@@ -19,6 +19,7 @@ use format::NO_ROOM;
 use format::UNKNOWN_MODE;
 use skip::entry_size;
 use skip::has_freq;
+use skip::known_mode;
 use skip::record_option;
 ghost use mathlib.Core.Path.{_≡_};
 ghost use mathlib.Core.Bool.{true};
@@ -296,7 +297,7 @@ fn write_checked(
 fn ask_docs(mode: u8, recording: bool, ids: &[u32], freqs: &[u32]) -> Accepted
     ensures { λ r. ⌜ r ≡ accepted (written mode recording (now (ids .entry)) (now (freqs .entry))) ⌝ }
 {
-    if 1 < mode {
+    if !known_mode(mode) {
         return Accepted::Refused(UNKNOWN_MODE);
     }
     if ids.len() != freqs.len() {

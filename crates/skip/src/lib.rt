@@ -13,7 +13,7 @@ ghost use Prim.Native.Nat.{_+_, _*_, _≤_, _<_};
 ghost use lib.ListN.{length, drop};
 ghost use Rattle.format.specs.Basics.{fourBytes};
 ghost use Rattle.format.specs.SkipEntry.{hasFreq, entrySize, freqWidthOf, readEntry, widthByte, blockSize, entryFits};
-ghost use Rattle.format.specs.Accepted.{keptIn};
+ghost use Rattle.format.specs.Accepted.{knownMode, keptIn};
 ghost use Rattle.skip.specs.Entry.{entryAt, entryPut, entryNext};
 
 // Whether blocks and entries hold frequencies.
@@ -34,6 +34,13 @@ pub fn entry_size(option: IndexRecordOption) -> usize
         IndexRecordOption::Basic => 5,
         IndexRecordOption::WithFreqs => 8,
     }
+}
+
+// Question 1 of document 01 of a recorded mode.
+pub fn known_mode(mode: u8) -> bool
+    ensures { λ r. ⌜ r ≡ knownMode mode ⌝ }
+{
+    mode <= 1
 }
 
 // What a list of this mode keeps, by whether its frequencies are recorded.

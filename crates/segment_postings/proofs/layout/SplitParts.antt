@@ -17,7 +17,7 @@ use Rattle.format.specs.declared.VInt.{VInt}
 use Rattle.format.specs.declared.VInt.the-variants.{Number, Malformed}
 use Rattle.format.specs.Basics.{Outcome, ok, refused, ask, choose, TERMINATED}
 use Rattle.format.specs.Refusal.{unknownMode, countTooLarge, skipLengthBroken}
-use Rattle.format.specs.Accepted.{keptIn}
+use Rattle.format.specs.Accepted.{knownMode, keptIn}
 use Rattle.format.specs.SkipEntry.{entrySize}
 use Rattle.format.specs.Vint.{skipLength}
 use Rattle.format.specs.Layout.{fullBlocks, sized, split, layout, skipBytes}
@@ -98,7 +98,7 @@ sized-alone t e = rw (sized-is, e, mul-zero)
 -- questions 1 and 2, before what follows them
 abbrev pub asked : Term → Outcome Layout → Outcome Layout
 asked t o =
-    ask (and (leb (t .mode) 1) (leb (t .requested) 2)) unknownMode λ _.
+    ask (and (knownMode (t .mode)) (leb (t .requested) 2)) unknownMode λ _.
     ask (leb (t .count) TERMINATED) countTooLarge λ _. o
 
 pub layout-at : (t : Term) (bs : List ℕ) {r : Split} → splitOf (t .count) bs ≡ r → layout t bs ≡ asked t (layoutAt t r)

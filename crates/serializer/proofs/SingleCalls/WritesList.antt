@@ -21,7 +21,7 @@ use Rattle.format.specs.Written.{Parts, blocksOf, tailOf, imageWith, image}
 use Rattle.format.specs.Accepted.{keptIn, begin, takeDoc, takeDocs, written}
 use Rattle.format.proofs.Outcome.{refused≢ok, andThen-ok}
 use Rattle.format.proofs.ImageParts.{headed, image-is}
-use Rattle.format.proofs.Accepted.{written-ok}
+use Rattle.format.proofs.Accepted.{known-mode, written-ok}
 use Rattle.serializer.specs.declared.PostingsSerializer.{PostingsSerializer}
 use Rattle.serializer.specs.Lists.{acceptedBlocks, WritesList}
 use Rattle.serializer.specs.Writer.{Areas, fresh, optionOf, waitingDocs, waitingFreqs, firstLeast, leastAfter}
@@ -139,7 +139,7 @@ module _ (mode : ℕ) (recording : Bool) (ds fs skips postings : List ℕ) (smal
 
   written-is : written mode recording ds fs ≡ andThen (takeDocs option 0 ds fs) λ _. ok (image option ds fs)
   unfolding written begin ask andThen
-  written-is = rw (le-leb _ _ known, eq-eqb _ _ as-many)
+  written-is = rw (known-mode _ known, eq-eqb _ _ as-many)
 
   pub answers :
       Answers (Ended (fresh mode recording) ds fs skips postings) (room blocks (fresh mode recording) skips postings)

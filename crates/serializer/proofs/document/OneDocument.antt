@@ -17,8 +17,8 @@ use Rattle.format.specs.Basics.{ok, refused, andThen, ask, choose, lastOf, putA
 use Rattle.format.specs.Refusal.{noRoom, stateBroken}
 use Rattle.format.specs.Values.{rising, countable}
 use Rattle.format.specs.SkipEntry.{hasFreq}
-use Rattle.format.specs.Accepted.{takeDoc}
-use Rattle.format.proofs.Accepted.{Taken, takeDoc-ok}
+use Rattle.format.specs.Accepted.{knownMode, takeDoc}
+use Rattle.format.proofs.Accepted.{known-mode, Taken, takeDoc-ok}
 use Rattle.format.proofs.Choice.{granted}
 use Rattle.format.proofs.Values.{rising-append, countable-append}
 use Rattle.serializer.specs.declared.PostingsSerializer.{PostingsSerializer}
@@ -73,7 +73,7 @@ inBounds-is : (s : PostingsSerializer) (skips postings : List ℕ)
     (and (or (not (hasFreq (optionOf s))) (countable (waitingFreqs s)))
     (and (leb (s .taken) TERMINATED)
     (and (and (leb (s .«skips_at») (length skips)) (leb (s .«postings_at») (length postings)))
-    (leb (s .mode) 1)))))
+    (knownMode (s .mode))))))
 unfolding inBounds
 inBounds-is s skips postings = refl
 
@@ -105,7 +105,7 @@ pub in-bounds : {s : PostingsSerializer} {skips postings : List ℕ} → Held s 
 in-bounds {s} h =
     let counted = le-leb (s .taken) TERMINATED (omega arith) in
     rw (inBounds-is, le-leb _ _ (h .few), h .rises, granted _ _ (h .counts), counted, le-leb _ _ (h .skips-within))
-    (rw (le-leb _ _ (h .postings-within), le-leb _ _ (h .mode-known)))
+    (rw (le-leb _ _ (h .postings-within), known-mode _ (h .mode-known)))
 
 -- ---- one more id that rises, one more frequency that counts
 

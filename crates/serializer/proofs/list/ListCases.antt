@@ -5,14 +5,14 @@ use mathlib.Core.Bool.{Bool, true, false, _&&_ as and, and-eq-true-iff}
 use mathlib.Core.List.{List}
 use mathlib.Core.Path.{_≡_, refl, sym, ap, _∙_}
 use Prim.Native.Nat.{ℕ, _≤_, _<_}
-use borrow.Author.Tests.{le-leb, lt-leb, eq-eqb, ne-eqb, eqb-true}
+use borrow.Author.Tests.{eq-eqb, ne-eqb, eqb-true}
 use lib.Dec.{leb, eqb}
 use lib.ListN.{length, take}
 use Rattle.format.specs.declared.IndexRecordOption.{IndexRecordOption}
 use Rattle.format.specs.Basics.{Outcome, ok, refused, andThen, ask, choose, fitsAt, putAt, orBefore}
 use Rattle.format.specs.Refusal.{unknownMode, countMismatch, noRoom}
 use Rattle.format.specs.Written.{image, imageFrom}
-use Rattle.format.specs.Accepted.{keptIn, begin, takeDocs, written}
+use Rattle.format.specs.Accepted.{knownMode, keptIn, begin, takeDocs, written}
 use Rattle.format.proofs.Area.{length-putAt, take-putAt-front}
 use Rattle.format.proofs.Outcome.{ok-same, ask-ok, andThen-ok}
 use Rattle.serializer.specs.declared.Accepted.the-variants.{Refused as No}
@@ -43,7 +43,7 @@ module _ {A : Type 0} {o : Outcome A} (n : ℕ) (a : A) where
 
 -- ---- the definitions, opened by one turn
 
-begin-is : (mode : ℕ) (recording : Bool) → begin mode recording ≡ ask (leb mode 1) unknownMode λ _. ok (keptIn mode recording)
+begin-is : (mode : ℕ) (recording : Bool) → begin mode recording ≡ ask (knownMode mode) unknownMode λ _. ok (keptIn mode recording)
 unfolding begin
 begin-is mode recording = refl
 
@@ -72,18 +72,18 @@ then-accepted b (ok a) = refl
 then-accepted b (refused n) = refl
 
 module _ (mode : ℕ) (recording : Bool) (ds fs : List ℕ) where
-  pub mode-unknown : 1 < mode → accepted (written mode recording ds fs) ≡ No unknownMode
+  pub mode-unknown : knownMode mode ≡ false → accepted (written mode recording ds fs) ≡ No unknownMode
   unfolding accepted andThen ask
-  mode-unknown h = rw (written-is, begin-is, lt-leb mode 1 h)
+  mode-unknown h = rw (written-is, begin-is, h)
 
-  pub lengths-differ : mode ≤ 1 → (length ds ≡ length fs → ⊥) → accepted (written mode recording ds fs) ≡ No countMismatch
+  pub lengths-differ : knownMode mode ≡ true → (length ds ≡ length fs → ⊥) → accepted (written mode recording ds fs) ≡ No countMismatch
   unfolding accepted andThen ask
-  lengths-differ known h = rw (written-is, begin-is, le-leb mode 1 known, ne-eqb _ _ h)
+  lengths-differ known h = rw (written-is, begin-is, known, ne-eqb _ _ h)
 
-  pub docs-asked : mode ≤ 1 → length ds ≡ length fs
+  pub docs-asked : knownMode mode ≡ true → length ds ≡ length fs
       → accepted (takeDocs (keptIn mode recording) 0 ds fs) ≡ accepted (written mode recording ds fs)
   unfolding andThen ask
-  docs-asked known same = rw (written-is, begin-is, le-leb mode 1 known, eq-eqb _ _ same) (then-accepted (image (keptIn mode recording) ds fs) _)
+  docs-asked known same = rw (written-is, begin-is, known, eq-eqb _ _ same) (then-accepted (image (keptIn mode recording) ds fs) _)
 
   -- a list that passed them
   pub checked : {bytes : List ℕ} → written mode recording ds fs ≡ ok bytes → Checked ds fs × (bytes ≡ image (keptIn mode recording) ds fs)

@@ -7,10 +7,11 @@ use mathlib.Core.Logic.{⊎-elim}
 use mathlib.Core.Path.{_≡_, refl, sym, ap, _∙_}
 use Prim.Native.Nat.{ℕ}
 use borrow.Author.Needs.{needs}
-use borrow.Author.Tests.{le-leb, lt-leb, ltb-true, ltb-false}
+use borrow.Author.Tests.{not-true, not-false, le-leb, lt-leb, ltb-true, ltb-false}
 use denote.Ref.{now}
 use lib.Dec.{leb}
 use Rattle.format.specs.declared.Term.{Term}
+use Rattle.format.specs.Accepted.{knownMode}
 use Rattle.format.specs.Basics.{ask}
 use Rattle.format.specs.Layout.{layout}
 use Rattle.segment_postings.specs.declared.layout.Split.{Split}
@@ -19,16 +20,25 @@ use Rattle.segment_postings.proofs.layout.SplitParts.{split-places, lay
 use Rattle.segment_postings.proofs.layout.lay_out.Statement.{statement}
 use Rattle.segment_postings.proofs.layout.lay_out.Tie as tie
 
+known-mode-requires : tie.Need-known-mode-requires
+known-mode-requires c κs = search needs
+
+mode-known : (c : tie.Else1) → knownMode (c .before .before .before .args .term .mode) ≡ true
+mode-known c = sym (c .before .known-mode .ensures) ∙ not-false _ (c .if1 .left)
+
 -- where question 1 is answered yes
 module _ (c : tie.Else2) where
+  abbrev start : tie.Start
+  start = c .before .before .before .before .before
+
   abbrev image : List ℕ
-  image = now (c .before .before .before .before .before .args .image)
+  image = now (start .args .image)
 
   abbrev term : Term
-  term = c .before .before .before .before .before .args .term
+  term = start .args .term
 
-  known : and (leb (term .mode) 1) (leb (term .requested) 2) ≡ true
-  known = rw (le-leb _ _ (c .before .before .if1 .left), le-leb _ _ (ltb-false 2 (term .requested) (c .if2 .left)))
+  known : and (knownMode (term .mode)) (leb (term .requested) 2) ≡ true
+  known = rw (mode-known (c .before .before), le-leb _ _ (ltb-false 2 (term .requested) (c .if2 .left)))
 
 -- .. and question 2
 module _ (c : tie.After-split-into-skips-and-postings) where
@@ -45,8 +55,8 @@ returns c =
     let a = c .before .before .before .args in
     let questions = layout-at (a .term) (now (a .image)) refl in
     ⊎-elim
-    (λ w. rw (questions, lt-leb _ _ (w .taken)))
-    (λ w. rw (questions, le-leb _ _ (w .0 .left), lt-leb _ _ (ltb-true 2 (a .term .requested) (w .2 .taken))))
+    (λ w. rw (questions, sym (c .before .known-mode .ensures) ∙ not-true _ (w .taken)))
+    (λ w. rw (questions, sym (c .before .known-mode .ensures) ∙ not-false _ (w .0 .left), lt-leb _ _ (ltb-true 2 (a .term .requested) (w .2 .taken))))
     (c .if1 .came)
 
 returns-2 : tie.Need-returns-2
@@ -80,6 +90,7 @@ pub lay-out-spec : {M : Type 1} → statement M
 lay-out-spec =
     tie.close
     (tie.spec
+    known-mode-requires
     returns
     returns-2
     split-into-skips-and-postings-requires

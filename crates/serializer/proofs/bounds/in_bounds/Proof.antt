@@ -6,6 +6,7 @@ use lib.Dec.{leb}
 use borrow.Author.Tests.{not-true, not-false, le-leb, lt-leb}
 use borrow.Author.Needs.{needs}
 use Rattle.format.specs.Basics.{TERMINATED}
+use Rattle.format.specs.Accepted.{knownMode}
 use Rattle.serializer.specs.Writer.{boundsHold}
 use Rattle.serializer.proofs.bounds.in_bounds.Statement.{statement}
 use Rattle.serializer.proofs.bounds.in_bounds.Tie as tie
@@ -38,7 +39,7 @@ returns-3 c =
 waiting-pass : (c : tie.Else3) → let a = c .before .before .before .before .before .before .args in
     boundsHold (a .state) (a .skips) (a .postings)
     ≡ and (leb (a .state .taken) TERMINATED)
-    (and (and (leb (a .state .«skips_at») (a .skips)) (leb (a .state .«postings_at») (a .postings))) (leb (a .state .mode) 1))
+    (and (and (leb (a .state .«skips_at») (a .skips)) (leb (a .state .«postings_at») (a .postings))) (knownMode (a .state .mode)))
 unfolding boundsHold
 waiting-pass c =
     let docs = c .before .before in
@@ -60,12 +61,16 @@ returns-6 c =
     let taken = skips .before .before in
     rw (waiting-pass (taken .before .before), le-leb _ _ (taken .if4 .left), le-leb _ _ (skips .if5 .left), lt-leb _ _ (c .if6 .taken))
 
+known-mode-requires : tie.Need-known-mode-requires
+known-mode-requires c κs = search needs
+
 returns-7 : tie.Need-returns-7
 returns-7 c =
     let postings = c .before in
     let skips = postings .before .before in
     let taken = skips .before .before in
     rw (waiting-pass (taken .before .before), le-leb _ _ (taken .if4 .left), le-leb _ _ (skips .if5 .left), le-leb _ _ (postings .if6 .left))
+    (c .known-mode .ensures)
 
 pub in-bounds-spec : {M : Type 1} → statement M
 in-bounds-spec =
@@ -79,4 +84,5 @@ in-bounds-spec =
     returns-4
     returns-5
     returns-6
+    known-mode-requires
     returns-7)
