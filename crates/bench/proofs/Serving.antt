@@ -34,7 +34,7 @@ served-most bs t c (target ∷ targets) = then-most (seeking c bs t target) _ (l
 -- ---- one answer
 
 -- at a place of a block there is one, and it is stored
-module _ (t : Term) (c : SegmentPostings) (below : c .place < 128) where
+module _ (t : Term) (c : SegmentPostings) (below : c .held .place < 128) where
   pub never-refused : {n : ℕ} → answering t c ≡ Refused n → ⊥
   never-refused e = answerAt-at t c (sym (answering-at t c below) ∙ e)
 

@@ -31,18 +31,18 @@ module _ (c : SegmentPostings) (t : Term) (bs bs′ : List ℕ) (same : length b
   seek-at-end target e = rw (same-bounds c t bs bs′ same, eq-eqb (position c) (t .count) e)
 
   -- a step to another place of the block
-  pub step-held : c .place + 1 < 128 → advanced c bs t ≡ advanced c bs′ t
+  pub step-held : c .held .place + 1 < 128 → advanced c bs t ≡ advanced c bs′ t
   unfolding advanced stepping choose
-  step-held h = rw (same-bounds c t bs bs′ same, lt-ltb (c .place + 1) 128 h)
+  step-held h = rw (same-bounds c t bs bs′ same, lt-ltb (c .held .place + 1) 128 h)
 
   -- a seek to a target not behind the present document, or not behind the block's last id
-  pub seek-stays : (target : ℕ) → target ≤ getD (c .docs) (c .place) 0 → sought c bs t target ≡ sought c bs′ t target
+  pub seek-stays : (target : ℕ) → target ≤ getD (c .docs) (c .held .place) 0 → sought c bs t target ≡ sought c bs′ t target
   unfolding sought seeking choose
-  seek-stays target h = rw (same-bounds c t bs bs′ same, le-leb target (getD (c .docs) (c .place) 0) h)
+  seek-stays target h = rw (same-bounds c t bs bs′ same, le-leb target (getD (c .docs) (c .held .place) 0) h)
 
-  pub seek-held : (target : ℕ) → target ≤ c .«last_doc» → sought c bs t target ≡ sought c bs′ t target
+  pub seek-held : (target : ℕ) → target ≤ c .held .«last_doc» → sought c bs t target ≡ sought c bs′ t target
   unfolding sought seeking choose
-  seek-held target h = rw (same-bounds c t bs bs′ same, le-leb target (c .«last_doc») h)
+  seek-held target h = rw (same-bounds c t bs bs′ same, le-leb target (c .held .«last_doc») h)
 
   -- a target that is refused
   pub seek-refused : (target : ℕ) → TERMINATED < target → sought c bs t target ≡ sought c bs′ t target
@@ -75,13 +75,8 @@ twoTerm = record { mode = 0; requested = 0; count = 256 }
 abbrev lent : ℕ → SegmentPostings
 lent next = record {
   docs = replicate 128 127;
+  held = record { place = 127; block = 0; next = next; «last_doc» = 127; unpacked = 1; entries = 1 };
   freqs = replicate 128 1;
-  place = 127;
-  block = 0;
-  next = next;
-  «last_doc» = 127;
-  unpacked = 1;
-  entries = 1;
 }
 
 -- question 5, not what the skip bytes would give

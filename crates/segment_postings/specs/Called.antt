@@ -94,8 +94,8 @@ modelNumbers n (a ∷ rest) (p ∷ ps) = shownNumbers a (entriesRead n p) ++ mod
 -- a cursor beside the model's state
 pub record Counts (t : Term) (c : SegmentPostings) (m : State) : Type 0 where
   pub at-position : position c ≡ m .position
-  pub unpacked-visited : c .unpacked ≡ length (m .visited)
-  pub entries-are : c .entries ≡ entriesRead (t .count) (m .position)
+  pub unpacked-visited : c .held .unpacked ≡ length (m .visited)
+  pub entries-are : c .held .entries ≡ entriesRead (t .count) (m .position)
 
 -- a call on lent arrays beside the call by value on the cursor `was`, which gives m
 pub record SameCall (t : Term) (was : SegmentPostings) (m : Moved) (docs freqs docs′ freqs′ : List ℕ) (r : Reached) : Type 0 where

@@ -64,31 +64,11 @@ Leaves m answer after = (answer ≡ m .answer) × (after ≡ m .cursor)
 
 -- ---- the cursor in parts
 
-unfoldable pub cursorOf : Held → List ℕ → List ℕ → SegmentPostings
-cursorOf h docs freqs = record {
-  docs = docs;
-  freqs = freqs;
-  place = h .place;
-  block = h .block;
-  next = h .next;
-  «last_doc» = h .«last_doc»;
-  unpacked = h .unpacked;
-  entries = h .entries;
-}
-
-unfoldable pub heldOf : SegmentPostings → Held
-heldOf c = record {
-  place = c .place;
-  block = c .block;
-  next = c .next;
-  «last_doc» = c .«last_doc»;
-  unpacked = c .unpacked;
-  entries = c .entries;
-}
+abbrev pub cursorOf : Held → List ℕ → List ℕ → SegmentPostings
+cursorOf held docs freqs = record { docs = docs; held = held; freqs = freqs }
 
 unfoldable pub reached : Outcome SegmentPostings → Reached
-unfolding heldOf
-reached (ok c) = reached-as.At (heldOf c)
+reached (ok c) = reached-as.At (c .held)
 reached (refused n) = reached-as.Refused n
 
 -- a call on two lent arrays and the numbers: where it came to, and what the arrays hold; a refusal leaves them as they were

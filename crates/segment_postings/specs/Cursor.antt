@@ -14,37 +14,40 @@ use Rattle.block_search.specs.Search.{searchBlock}
 use Rattle.segment_postings.specs.declared.SegmentPostings.{SegmentPostings}
 use Rattle.segment_postings.specs.declared.Answer.{Answer}
 use Rattle.segment_postings.specs.declared.Answer.the-variants.{At, Refused}
+use Rattle.segment_postings.specs.declared.Held.{Held}
 use Rattle.segment_postings.specs.declared.Moved.{Moved}
 use Rattle.segment_postings.specs.declared.find.Start.{Start}
 use Rattle.segment_postings.specs.Landing.{firstStart, landing}
 
 unfoldable pub position : SegmentPostings → ℕ
-position c = 128 * c .block + c .place
+position c = 128 * c .held .block + c .held .place
 
 -- question 16: block at most F, place below 128, position at most count, bytes inside the image, unpacked at most block + 1,
 -- entries at most the smaller of block + 1 and F
 unfoldable pub inBounds : Term → List ℕ → SegmentPostings → Bool
 unfolding fullBlocks position
 inBounds t bs c =
-    and (leb (c .block) (fullBlocks t))
-    (and (ltb (c .place) 128)
+    let h : Held = c .held in
+    and (leb (h .block) (fullBlocks t))
+    (and (ltb (h .place) 128)
     (and (leb (position c) (t .count))
-    (and (leb (c .next) (length bs))
-    (and (leb (c .unpacked) (c .block + 1))
-    (leb (c .entries) (min (c .block + 1) (fullBlocks t)))))))
+    (and (leb (h .next) (length bs))
+    (and (leb (h .unpacked) (h .block + 1))
+    (leb (h .entries) (min (h .block + 1) (fullBlocks t)))))))
 
 -- the document and the frequency at the position, at the end TERMINATED and 0
 unfoldable pub answerAt : Term → SegmentPostings → Answer
 unfolding choose position
 answerAt t c =
+    let h : Held = c .held in
     choose (eqb (position c) (t .count))
-    (λ _. At TERMINATED 0 (c .unpacked) (c .entries))
-    (λ _. At (getD (c .docs) (c .place) 0) (getD (c .freqs) (c .place) 0) (c .unpacked) (c .entries))
+    (λ _. At TERMINATED 0 (h .unpacked) (h .entries))
+    (λ _. At (getD (c .docs) (h .place) 0) (getD (c .freqs) (h .place) 0) (h .unpacked) (h .entries))
 
 -- .. as a call of its own answers it, of any numbers: 16 for a place that no block has
 unfoldable pub answering : Term → SegmentPostings → Answer
 unfolding choose answerAt
-answering t c = choose (ltb (c .place) 128) (λ _. answerAt t c) (λ _. Refused stateBroken)
+answering t c = choose (ltb (c .held .place) 128) (λ _. answerAt t c) (λ _. Refused stateBroken)
 
 -- an outcome with its answer; a refused call leaves the cursor as it was
 unfoldable pub moved : Term → SegmentPostings → Outcome SegmentPostings → Moved
@@ -57,13 +60,8 @@ moved t before (refused n) = record { answer = Refused n; cursor = before }
 unfoldable pub blank : SegmentPostings
 blank = record {
   docs = replicate 128 TERMINATED;
+  held = record { place = 128; block = 0; next = 0; «last_doc» = 0; unpacked = 0; entries = 0 };
   freqs = replicate 128 1;
-  place = 128;
-  block = 0;
-  next = 0;
-  «last_doc» = 0;
-  unpacked = 0;
-  entries = 0;
 }
 
 -- opening reads entry 0, if any, and unpacks block 0
@@ -75,18 +73,19 @@ unfoldable pub opened : List ℕ → Term → Moved
 unfolding moved blank opening
 opened bs t = moved t blank (opening bs t)
 
--- the place p of the held block
-unfoldable pub atPlace : SegmentPostings → ℕ → SegmentPostings
-atPlace c p = record {
-  docs = c .docs;
-  freqs = c .freqs;
+-- the place p of the held block: the numbers there, and the cursor
+abbrev pub heldAt : Held → ℕ → Held
+heldAt h p = record {
   place = p;
-  block = c .block;
-  next = c .next;
-  «last_doc» = c .«last_doc»;
-  unpacked = c .unpacked;
-  entries = c .entries;
+  block = h .block;
+  next = h .next;
+  «last_doc» = h .«last_doc»;
+  unpacked = h .unpacked;
+  entries = h .entries;
 }
+
+unfoldable pub atPlace : SegmentPostings → ℕ → SegmentPostings
+atPlace c p = record { docs = c .docs; held = heldAt (c .held) p; freqs = c .freqs }
 
 -- the least id that may follow a last id; none may follow TERMINATED
 unfoldable pub leastAfter : ℕ → ℕ
@@ -99,13 +98,13 @@ unfolding fullBlocks
 startsInside t l b at = or (leb (fullBlocks t) b) (leb (l .postings) at)
 
 -- the block behind the held one
-abbrev pub startBehind : SegmentPostings → Start
-startBehind c = record {
-  block = c .block + 1;
-  at = c .next;
-  least = leastAfter (c .«last_doc»);
-  entries = c .entries;
-  unpacked = c .unpacked;
+abbrev pub startBehind : Held → Start
+startBehind h = record {
+  block = h .block + 1;
+  at = h .next;
+  least = leastAfter (h .«last_doc»);
+  entries = h .entries;
+  unpacked = h .unpacked;
 }
 
 -- another block: questions 1 to 4 are asked again of the image that is passed, then 5 to 9. A lent cursor that didn't come
@@ -114,8 +113,8 @@ unfoldable pub leaving : SegmentPostings → List ℕ → Term → ℕ → Outco
 unfolding andThen ask layout startsInside landing leastAfter
 leaving c bs t target =
     andThen (layout t bs) λ l.
-    ask (startsInside t l (c .block + 1) (c .next)) entryBroken λ _.
-    landing t bs l target (startBehind c)
+    ask (startsInside t l (c .held .block + 1) (c .held .next)) entryBroken λ _.
+    landing t bs l target (startBehind (c .held))
 
 -- a step: 16; at the end nothing; else one place on, in the held block or the next
 unfoldable pub stepping : SegmentPostings → List ℕ → Term → Outcome SegmentPostings
@@ -123,7 +122,7 @@ unfolding ask choose inBounds position atPlace leaving
 stepping c bs t =
     ask (inBounds t bs c) stateBroken λ _.
     choose (eqb (position c) (t .count)) (λ _. ok c) λ _.
-    choose (ltb (c .place + 1) 128) (λ _. ok (atPlace c (c .place + 1))) λ _.
+    choose (ltb (c .held .place + 1) 128) (λ _. ok (atPlace c (c .held .place + 1))) λ _.
     leaving c bs t 0
 
 unfoldable pub advanced : SegmentPostings → List ℕ → Term → Moved
@@ -135,7 +134,7 @@ unfoldable pub valueAt : List ℕ → ℕ → SegmentPostings → List ℕ → T
 unfolding ask choose inBounds position
 valueAt values end c bs t =
     ask (inBounds t bs c) stateBroken λ _.
-    choose (eqb (position c) (t .count)) (λ _. ok end) (λ _. ok (getD values (c .place) 0))
+    choose (eqb (position c) (t .count)) (λ _. ok end) (λ _. ok (getD values (c .held .place) 0))
 
 -- the document at the position, at the end TERMINATED
 unfoldable pub docAt : SegmentPostings → List ℕ → Term → Outcome ℕ
@@ -162,10 +161,10 @@ unfolding ask placeOf atPlace
 within c t target =
     let p : ℕ = placeOf c target in
     ask
-    (and (ltb (c .place) p)
+    (and (ltb (c .held .place) p)
     (and (ltb p 128)
     (and (leb target (getD (c .docs) p 0))
-    (leb (128 * c .block + p) (t .count)))))
+    (leb (128 * c .held .block + p) (t .count)))))
     stateBroken
     λ _. ok (atPlace c p)
 
@@ -174,7 +173,7 @@ within c t target =
 unfoldable pub behind : SegmentPostings → List ℕ → Term → ℕ → Outcome SegmentPostings
 unfolding ask andThen fullBlocks leaving atPlace placeOf
 behind c bs t target =
-    ask (ltb (c .block) (fullBlocks t)) stateBroken λ _.
+    ask (ltb (c .held .block) (fullBlocks t)) stateBroken λ _.
     andThen (leaving c bs t target) λ landed. ok (atPlace landed (placeOf landed target))
 
 -- a seek: 16; at the end nothing, whatever the target; 10; a target not behind the present document stays; then the held block, if its
@@ -185,8 +184,8 @@ seeking c bs t target =
     ask (inBounds t bs c) stateBroken λ _.
     choose (eqb (position c) (t .count)) (λ _. ok c) λ _.
     ask (leb target TERMINATED) targetTooLarge λ _.
-    choose (leb target (getD (c .docs) (c .place) 0)) (λ _. ok c) λ _.
-    choose (leb target (c .«last_doc»)) (λ _. within c t target) (λ _. behind c bs t target)
+    choose (leb target (getD (c .docs) (c .held .place) 0)) (λ _. ok c) λ _.
+    choose (leb target (c .held .«last_doc»)) (λ _. within c t target) (λ _. behind c bs t target)
 
 unfoldable pub sought : SegmentPostings → List ℕ → Term → ℕ → Moved
 unfolding moved seeking

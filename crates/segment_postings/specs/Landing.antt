@@ -66,13 +66,15 @@ unfoldable pub holding : Found → ℕ → Block → SegmentPostings
 unfolding padded blockSize
 holding f unpacked b = record {
   docs = padded TERMINATED (b .docs);
+  held = record {
+    place = 0;
+    block = f .block;
+    next = f .at + blockSize (f .info);
+    «last_doc» = f .info .«last_doc»;
+    unpacked = unpacked + 1;
+    entries = f .entries;
+  };
   freqs = padded 1 (b .freqs);
-  place = 0;
-  block = f .block;
-  next = f .at + blockSize (f .info);
-  «last_doc» = f .info .«last_doc»;
-  unpacked = unpacked + 1;
-  entries = f .entries;
 }
 
 -- the first block from a block on whose last id is at least the target, unpacked

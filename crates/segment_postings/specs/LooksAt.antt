@@ -27,7 +27,7 @@ bytesOf t f bs = choose (ltb (f .block) (fullBlocks t)) (λ _. take (blockSize (
 -- the block that the entries lead a cursor to that leaves its own
 abbrev pub leadsTo : SegmentPostings → List ℕ → Term → Layout → ℕ → Outcome Found
 leadsTo c bs t l target =
-    findBlock (l .option) (skipBytes l bs) bs target (fullBlocks t - (c .block + 1)) (startBehind c)
+    findBlock (l .option) (skipBytes l bs) bs target (fullBlocks t - (c .held .block + 1)) (startBehind (c .held))
 
 -- two images that are the same in that block, if the entries lead to one
 abbrev pub SameThere : SegmentPostings → Term → Layout → List ℕ → List ℕ → ℕ → Type 0

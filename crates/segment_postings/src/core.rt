@@ -209,7 +209,7 @@ fn least_after(last_doc: u32) -> u32
 // The block behind the held one.
 pub(crate) fn start_behind(held: Held) -> Start
     requires { ⌜ held .block + 1 < 2 ^ 64 ⌝ }
-    ensures { λ r. ⌜ ((docs freqs : List ℕ) → r ≡ startBehind (cursorOf held docs freqs)) ⌝ }
+    ensures { λ r. ⌜ r ≡ startBehind held ⌝ }
 {
     Start {
         block: held.block + 1,

@@ -12,8 +12,6 @@ use crate::core::leave_whole;
 use crate::core::open_in;
 use crate::core::shown_at;
 use crate::layout::full_blocks;
-use crate::segment_postings::cursor_of;
-use crate::segment_postings::held_of;
 use block_search::search_block;
 use format::COMPRESSION_BLOCK_SIZE;
 use format::STATE_BROKEN;
@@ -24,12 +22,12 @@ ghost use mathlib.Core.Bool.{true};
 ghost use mathlib.Core.Path.{_≡_};
 ghost use mathlib.Core.List.{List};
 ghost use Prim.Native.Nat.{ℕ, _/_, _≤_, _<_};
-ghost use Rattle.segment_postings.specs.Cursor.{inBounds, atPlace, within, behind, seeking, sought, ranking};
+ghost use Rattle.segment_postings.specs.Cursor.{inBounds, heldAt, within, behind, seeking, sought, ranking};
 ghost use Rattle.segment_postings.specs.Calls.{cursorOf, Reaches, valued};
 
 // The numbers of a cursor at another place of its held block.
 fn at_place(held: Held, place: usize) -> Held
-    ensures { λ r. ⌜ ((docs freqs : List ℕ) → cursorOf r docs freqs ≡ atPlace (cursorOf held docs freqs) place) ⌝ }
+    ensures { λ r. ⌜ r ≡ heldAt held place ⌝ }
 {
     Held {
         place,
@@ -121,18 +119,17 @@ pub fn seek(cursor: SegmentPostings, image: &[u8], term: Term, target: u32) -> M
 {
     let mut docs = cursor.docs;
     let mut freqs = cursor.freqs;
-    let was = held_of(cursor);
-    match seek_in(was, image, term, target, &mut docs, &mut freqs) {
+    match seek_in(cursor.held, image, term, target, &mut docs, &mut freqs) {
         Reached::At(held) => {
             let answer = shown_at(held, term, &docs, &freqs);
             Moved {
                 answer,
-                cursor: cursor_of(held, docs, freqs),
+                cursor: SegmentPostings { docs, held, freqs },
             }
         }
         Reached::Refused(n) => Moved {
             answer: Answer::Refused(n),
-            cursor: cursor_of(was, docs, freqs),
+            cursor,
         },
     }
 }

@@ -19,37 +19,7 @@ ghost use mathlib.Core.Path.{_≡_};
 ghost use mathlib.Core.List.{List};
 ghost use Prim.Native.Nat.{ℕ};
 ghost use Rattle.segment_postings.specs.Cursor.{blank, opened, advanced, valueAt, docAt, freqAt};
-ghost use Rattle.segment_postings.specs.Calls.{cursorOf, heldOf, valued};
-
-// The numbers of a cursor.
-pub(crate) fn held_of(cursor: SegmentPostings) -> Held
-    ensures { λ r. ⌜ r ≡ heldOf cursor ⌝ }
-{
-    Held {
-        place: cursor.place,
-        block: cursor.block,
-        next: cursor.next,
-        last_doc: cursor.last_doc,
-        unpacked: cursor.unpacked,
-        entries: cursor.entries,
-    }
-}
-
-// Puts a cursor together again.
-pub(crate) fn cursor_of(held: Held, docs: [u32; 128], freqs: [u32; 128]) -> SegmentPostings
-    ensures { λ r. ⌜ r ≡ cursorOf held docs freqs ⌝ }
-{
-    SegmentPostings {
-        docs,
-        freqs,
-        place: held.place,
-        block: held.block,
-        next: held.next,
-        last_doc: held.last_doc,
-        unpacked: held.unpacked,
-        entries: held.entries,
-    }
-}
+ghost use Rattle.segment_postings.specs.Calls.{cursorOf, valued};
 
 // A cursor of no list: 128 places that hold TERMINATED, with frequency 1. It is at none of them, so that every call on it is refused.
 fn blank() -> SegmentPostings
@@ -57,13 +27,15 @@ fn blank() -> SegmentPostings
 {
     SegmentPostings {
         docs: [2147483647; 128],
+        held: Held {
+            place: COMPRESSION_BLOCK_SIZE,
+            block: 0,
+            next: 0,
+            last_doc: 0,
+            unpacked: 0,
+            entries: 0,
+        },
         freqs: [1; 128],
-        place: COMPRESSION_BLOCK_SIZE,
-        block: 0,
-        next: 0,
-        last_doc: 0,
-        unpacked: 0,
-        entries: 0,
     }
 }
 
@@ -79,7 +51,7 @@ pub fn open(image: &[u8], term: Term) -> Moved
             let answer = shown_at(held, term, &docs, &freqs);
             Moved {
                 answer,
-                cursor: cursor_of(held, docs, freqs),
+                cursor: SegmentPostings { docs, held, freqs },
             }
         }
         Reached::Refused(n) => Moved {
@@ -95,18 +67,17 @@ pub fn advance(cursor: SegmentPostings, image: &[u8], term: Term) -> Moved
 {
     let mut docs = cursor.docs;
     let mut freqs = cursor.freqs;
-    let was = held_of(cursor);
-    match advance_in(was, image, term, &mut docs, &mut freqs) {
+    match advance_in(cursor.held, image, term, &mut docs, &mut freqs) {
         Reached::At(held) => {
             let answer = shown_at(held, term, &docs, &freqs);
             Moved {
                 answer,
-                cursor: cursor_of(held, docs, freqs),
+                cursor: SegmentPostings { docs, held, freqs },
             }
         }
         Reached::Refused(n) => Moved {
             answer: Answer::Refused(n),
-            cursor: cursor_of(was, docs, freqs),
+            cursor,
         },
     }
 }
@@ -137,7 +108,7 @@ pub fn doc(cursor: SegmentPostings, image: &[u8], term: Term) -> Value
     ensures { λ r. ⌜ r ≡ valued (docAt cursor (now (image .entry)) term) ⌝ }
 {
     let docs = cursor.docs;
-    value_at(&docs, TERMINATED, held_of(cursor), image, term)
+    value_at(&docs, TERMINATED, cursor.held, image, term)
 }
 
 // The frequency at the position, 0 at the end.
@@ -145,5 +116,5 @@ pub fn term_freq(cursor: SegmentPostings, image: &[u8], term: Term) -> Value
     ensures { λ r. ⌜ r ≡ valued (freqAt cursor (now (image .entry)) term) ⌝ }
 {
     let freqs = cursor.freqs;
-    value_at(&freqs, 0, held_of(cursor), image, term)
+    value_at(&freqs, 0, cursor.held, image, term)
 }

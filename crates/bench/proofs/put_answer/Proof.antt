@@ -1,7 +1,6 @@
 -- `bench::put_answer` meets its contract: it stores what `answer_at` answers, which is no refusal at a place of a block.
 -- Assumes nothing.
 use mathlib.Core.Path.{sym, _∙_}
-use Rattle.segment_postings.specs.Calls.{cursorOf}
 use Rattle.bench.proofs.Serving.{stored-answer, never-refused}
 use borrow.Author.Needs.{needs}
 use Rattle.bench.proofs.put_answer.Statement.{statement}
@@ -17,7 +16,6 @@ enum-told : tie.Need-enum-told
 enum-told c = search needs
 
 returns : tie.Need-returns
-unfolding cursorOf
 returns c =
     let a = c .before .before in
     absurd (never-refused _ _ (a .before .before .before .pre .place-below) (sym (a .answer-at .ensures) ∙ c .enum-told .given .1))
@@ -41,7 +39,6 @@ same-length-2 : tie.Need-same-length-2
 same-length-2 c = search needs
 
 returns-2 : tie.Need-returns-2
-unfolding cursorOf
 returns-2 c =
     let a = c .before .before .before in
     stored-answer _ _ (a .before .before .before .pre .place-below) _ _ _ (sym (a .answer-at .ensures) ∙ c .before .doc .given .1)

@@ -60,7 +60,6 @@ module _ (w : tie.After-seek-in Inv-loop μ-loop) where
   below = (omega arith, omega arith)
 
 put-answer-requires : tie.Need-put-answer-requires Inv-loop μ-loop
-unfolding cursorOf
 put-answer-requires c κs =
     let w = c .before .before .before .before .before .before .before in
     let near = seeking-near _ _ _ _ (reached-at (w .seek-in .ensures) (c .before .before .before .before .before .next .given .1)) in

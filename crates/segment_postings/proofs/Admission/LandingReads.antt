@@ -73,16 +73,16 @@ record HeldOf (f : Found) (unpacked : ℕ) (block : Block) (h : Held) (docs freq
   unpacked-is : h .unpacked ≡ unpacked + 1
 
 held-of : (f : Found) (unpacked : ℕ) (block : Block) {h : Held} {docs freqs : List ℕ} → holding f unpacked block ≡ cursorOf h docs freqs → HeldOf f unpacked block h docs freqs
-unfolding holding cursorOf
+unfolding holding
 held-of f unpacked block e =
     record {
       docs-are = ap (λ (c : SegmentPostings). c .docs) (sym e);
       freqs-are = ap (λ (c : SegmentPostings). c .freqs) (sym e);
-      block-is = ap (λ (c : SegmentPostings). c .block) (sym e);
-      next-is = ap (λ (c : SegmentPostings). c .next) (sym e);
-      last-is = ap (λ (c : SegmentPostings). c .«last_doc») (sym e);
-      entries-are = ap (λ (c : SegmentPostings). c .entries) (sym e);
-      unpacked-is = ap (λ (c : SegmentPostings). c .unpacked) (sym e);
+      block-is = ap (λ (c : SegmentPostings). c .held .block) (sym e);
+      next-is = ap (λ (c : SegmentPostings). c .held .next) (sym e);
+      last-is = ap (λ (c : SegmentPostings). c .held .«last_doc») (sym e);
+      entries-are = ap (λ (c : SegmentPostings). c .held .entries) (sym e);
+      unpacked-is = ap (λ (c : SegmentPostings). c .held .unpacked) (sym e);
     }
 
 -- ---- the walk

@@ -23,7 +23,6 @@ use Rattle.segment_postings.specs.declared.Answer.the-variants.{At}
 use Rattle.segment_postings.specs.declared.SegmentPostings.{SegmentPostings}
 use Rattle.segment_postings.specs.Landing.{holding, landing}
 use Rattle.segment_postings.specs.Cursor.{inBounds, answerAt, position, atPlace, leastAfter, stepping}
-use Rattle.segment_postings.specs.Calls.{cursorOf, heldOf}
 use Rattle.segment_postings.specs.Private.{FindsFrom}
 use Rattle.segment_postings.specs.Passed.{docsIn}
 use Rattle.segment_postings.proofs.Admission.LandingReads.{BlockHeld, block-held, docs-in-full, docs-in-tail, reads-on, reads-last}
@@ -94,12 +93,12 @@ module _ (t : Term) (bs : List ℕ) (l : Layout) (laid : layout t bs ≡ ok l) w
     pub least : ℕ
     pub front : List Block
     pub passed : BlocksPassed b at least front
-    pub held : BlockHeld t l bs b at least (heldOf d) (d .docs) (d .freqs)
-    pub block-is : d .block ≡ b
-    pub place-is : d .place ≡ 0
-    pub next-inside : d .next ≤ length bs
-    pub unpacked-is : d .unpacked ≡ b + 1
-    pub entries-are : d .entries ≡ min (fullBlocks t) (b + 1)
+    pub held : BlockHeld t l bs b at least (d .held) (d .docs) (d .freqs)
+    pub block-is : d .held .block ≡ b
+    pub place-is : d .held .place ≡ 0
+    pub next-inside : d .held .next ≤ length bs
+    pub unpacked-is : d .held .unpacked ≡ b + 1
+    pub entries-are : d .held .entries ≡ min (fullBlocks t) (b + 1)
 
   pub passed-none : BlocksPassed 0 (l .postings) 0 []
   unfolding docsOf freqsOf
@@ -115,7 +114,7 @@ module _ (t : Term) (bs : List ℕ) (l : Layout) (laid : layout t bs ≡ ok l) w
 
   pub landing-on : {b at least : ℕ} {front : List Block} {d : SegmentPostings} → BlocksPassed b at least front
       → landing t bs l 0 (walking b at least) ≡ ok d → OnBlock b d
-  unfolding holding cursorOf heldOf
+  unfolding holding
   landing-on {b} {at} {least} {front} {d} k e =
       let found = andThen-ok _ _ (sym (landing-is t bs l 0 (walking b at least)) ∙ e) in
       let loads = andThen-ok _ _ (found .2) in
@@ -129,13 +128,13 @@ module _ (t : Term) (bs : List ℕ) (l : Layout) (laid : layout t bs ≡ ok l) w
         front = front;
         passed = k;
         held = block-held t l bs b at least (k .inside) e;
-        block-is = sym (ap (λ (c : SegmentPostings). c .block) same) ∙ here;
-        place-is = sym (ap (λ (c : SegmentPostings). c .place) same);
-        next-inside = rw (ap (λ (c : SegmentPostings). c .next) same) at (there .bytes);
-        unpacked-is = sym (ap (λ (c : SegmentPostings). c .unpacked) same);
+        block-is = sym (ap (λ (c : SegmentPostings). c .held .block) same) ∙ here;
+        place-is = sym (ap (λ (c : SegmentPostings). c .held .place) same);
+        next-inside = rw (ap (λ (c : SegmentPostings). c .held .next) same) at (there .bytes);
+        unpacked-is = sym (ap (λ (c : SegmentPostings). c .held .unpacked) same);
         entries-are = omega (
           arith,
-          ap (λ (c : SegmentPostings). c .entries) same,
+          ap (λ (c : SegmentPostings). c .held .entries) same,
           found-from t l bs 0 (walking b at least) from (found .1) .entries-read,
           k .block-most,
         );
@@ -241,33 +240,32 @@ module _ (t : Term) (bs : List ℕ) (l : Layout) (laid : layout t bs ≡ ok l) w
 
         pub step-ends : 128 * b + p ≡ t .count → stepping here bs t ≡ ok here
         unfolding atPlace
-        step-ends e = stepping-ended here bs t bounds (eq-eqb (128 * d .block + p) (t .count) (omega (arith, k .block-is)))
+        step-ends e = stepping-ended here bs t bounds (eq-eqb (128 * d .held .block + p) (t .count) (omega (arith, k .block-is)))
 
         pub step-goes : 128 * b + p < t .count → p + 1 < 128 → stepping here bs t ≡ ok (atPlace d (p + 1))
         unfolding atPlace
-        step-goes h m = stepping-within here bs t bounds (ne-eqb (128 * d .block + p) (t .count) (λ e. omega (arith, k .block-is))) m
+        step-goes h m = stepping-within here bs t bounds (ne-eqb (128 * d .held .block + p) (t .count) (λ e. omega (arith, k .block-is))) m
 
     -- the block behind a full one begins behind the skip bytes
-    next-behind : b < fullBlocks t → l .postings ≤ d .next
-    unfolding heldOf
+    next-behind : b < fullBlocks t → l .postings ≤ d .held .next
     next-behind some = omega (arith, k .held .next some .next-is, k .passed .behind-skips)
 
     -- the last place of a full block
     pub step-leaves : b < fullBlocks t
-        → stepping (atPlace d 127) bs t ≡ landing t bs l 0 (walking (b + 1) (d .next) (d .«last_doc» + 1))
-    unfolding atPlace leastAfter heldOf
+        → stepping (atPlace d 127) bs t ≡ landing t bs l 0 (walking (b + 1) (d .held .next) (d .held .«last_doc» + 1))
+    unfolding atPlace leastAfter
     step-leaves some =
         let in-it : 128 * b + 127 < t .count = omega (arith, whole-count t) in
         let bounds = bounds 127 (omega arith) (omega arith) in
-        let least : min (d .«last_doc» + 1) TERMINATED ≡ d .«last_doc» + 1 = omega (arith, k .held .next some .last-below) in
-        let one-more : d .entries ≡ b + 1 = omega (arith, k .entries-are) in
-        stepping-leaves (atPlace d 127) bs t bounds (ne-eqb (128 * d .block + 127) (t .count) (λ e. omega (arith, k .block-is))) (omega arith)
-        ∙ leaving-laid (atPlace d 127) bs t 0 laid (starts-behind t l (d .block + 1) (d .next) (next-behind some))
+        let least : min (d .held .«last_doc» + 1) TERMINATED ≡ d .held .«last_doc» + 1 = omega (arith, k .held .next some .last-below) in
+        let one-more : d .held .entries ≡ b + 1 = omega (arith, k .entries-are) in
+        stepping-leaves (atPlace d 127) bs t bounds (ne-eqb (128 * d .held .block + 127) (t .count) (λ e. omega (arith, k .block-is))) (omega arith)
+        ∙ leaving-laid (atPlace d 127) bs t 0 laid (starts-behind t l (d .held .block + 1) (d .held .next) (next-behind some))
         ∙ rw (k .block-is, least, one-more, k .unpacked-is)
 
     -- it is passed
-    pub passed-on : b < fullBlocks t → BlocksPassed (b + 1) (d .next) (d .«last_doc» + 1) (k .front ++ (block ∷ []))
-    unfolding before heldOf
+    pub passed-on : b < fullBlocks t → BlocksPassed (b + 1) (d .held .next) (d .held .«last_doc» + 1) (k .front ++ (block ∷ []))
+    unfolding before
     passed-on some =
         let on = reads-on t l bs b (k .at) (k .least) (k .held) some in
         let full = docs-in-full t b some in

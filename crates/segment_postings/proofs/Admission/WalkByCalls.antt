@@ -174,13 +174,13 @@ module _ (bs : List ℕ) (t : Term) where
 
     -- to the block behind, which is read or refused
     leaves : k < t .count → s .place ≡ 127 → Comes (suc k)
-    leaves h last = go (landing t bs (s .l) 0 (walking (s .block + 1) (s .first .next) (s .first .«last_doc» + 1))) refl
+    leaves h last = go (landing t bs (s .l) 0 (walking (s .block + 1) (s .first .held .next) (s .first .held .«last_doc» + 1))) refl
       where
         some : s .block < fullBlocks t
         some = omega (arith, s .there, whole-count t, tail-short t)
 
         go : (o : Outcome SegmentPostings)
-            → landing t bs (s .l) 0 (walking (s .block + 1) (s .first .next) (s .first .«last_doc» + 1)) ≡ o
+            → landing t bs (s .l) 0 (walking (s .block + 1) (s .first .held .next) (s .first .held .«last_doc» + 1)) ≡ o
             → Comes (suc k)
         go (ok d) e =
             let comes : stepping here bs t ≡ ok d = rw last (step-leaves t bs (s .l) (s .laid) on some ∙ e) in

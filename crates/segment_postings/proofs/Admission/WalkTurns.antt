@@ -59,8 +59,8 @@ module _ (t : Term) (l : Layout) (bs : List ℕ) where
           block-held t l bs (s .block) (s .at) (s .least) (w .inside) (sym (ap (λ (x : Start). landing t bs l 0 x) (w .is-walking)) ∙ e)
 
       module _ (k : BlockHeld t l bs (s .block) (s .at) (s .least) h docs freqs) (some : s .block < fullBlocks t) where
-        pub behind-walking : startBehind (cursorOf h docs freqs) ≡ walking (s .block + 1) (h .next) (h .«last_doc» + 1)
-        unfolding cursorOf leastAfter
+        pub behind-walking : startBehind h ≡ walking (s .block + 1) (h .next) (h .«last_doc» + 1)
+        unfolding leastAfter
         behind-walking =
             let n = k .next some in
             let least : min (h .«last_doc» + 1) TERMINATED ≡ h .«last_doc» + 1 = omega (arith, n .last-below) in
@@ -72,7 +72,7 @@ module _ (t : Term) (l : Layout) (bs : List ℕ) where
           pub walks : WalksFrom s′
           pub reads : readingFrom s ≡ (before (ok (k .block)) λ _. readingFrom s′)
 
-        pub turn : {s′ : Start} → s′ ≡ startBehind (cursorOf h docs freqs) → Turn s′
+        pub turn : {s′ : Start} → s′ ≡ startBehind h → Turn s′
         turn {s′} e =
             let is : s′ ≡ walking (s .block + 1) (h .next) (h .«last_doc» + 1) = e ∙ behind-walking in
             record {

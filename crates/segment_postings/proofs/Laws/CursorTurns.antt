@@ -58,8 +58,8 @@ landing-is t bs l target s = refl
 pub answerAt-is : (t : Term) (c : SegmentPostings)
     → answerAt t c
     ≡ choose (eqb (position c) (t .count))
-    (λ _. At TERMINATED 0 (c .unpacked) (c .entries))
-    (λ _. At (getD (c .docs) (c .place) 0) (getD (c .freqs) (c .place) 0) (c .unpacked) (c .entries))
+    (λ _. At TERMINATED 0 (c .held .unpacked) (c .held .entries))
+    (λ _. At (getD (c .docs) (c .held .place) 0) (getD (c .freqs) (c .held .place) 0) (c .held .unpacked) (c .held .entries))
 unfolding answerAt
 answerAt-is t c = refl
 
@@ -75,8 +75,8 @@ opening-is bs t = refl
 pub leaving-is : (c : SegmentPostings) (bs : List ℕ) (t : Term) (target : ℕ)
     → leaving c bs t target
     ≡ (andThen (layout t bs) λ l.
-    ask (startsInside t l (c .block + 1) (c .next)) entryBroken λ _.
-    landing t bs l target (startBehind c))
+    ask (startsInside t l (c .held .block + 1) (c .held .next)) entryBroken λ _.
+    landing t bs l target (startBehind (c .held)))
 unfolding leaving
 leaving-is c bs t target = refl
 
@@ -84,7 +84,7 @@ pub stepping-is : (c : SegmentPostings) (bs : List ℕ) (t : Term)
     → stepping c bs t
     ≡ (ask (inBounds t bs c) stateBroken λ _.
     choose (eqb (position c) (t .count)) (λ _. ok c) λ _.
-    choose (ltb (c .place + 1) 128) (λ _. ok (atPlace c (c .place + 1))) λ _.
+    choose (ltb (c .held .place + 1) 128) (λ _. ok (atPlace c (c .held .place + 1))) λ _.
     leaving c bs t 0)
 unfolding stepping
 stepping-is c bs t = refl
@@ -99,7 +99,7 @@ advanced-is c bs t = refl
 
 pub behind-is : (c : SegmentPostings) (bs : List ℕ) (t : Term) (target : ℕ)
     → behind c bs t target
-    ≡ (ask (ltb (c .block) (fullBlocks t)) stateBroken λ _.
+    ≡ (ask (ltb (c .held .block) (fullBlocks t)) stateBroken λ _.
     andThen (leaving c bs t target) λ landed. ok (atPlace landed (placeOf landed target)))
 unfolding behind
 behind-is c bs t target = refl
@@ -109,7 +109,7 @@ pub seeking-is : (c : SegmentPostings) (bs : List ℕ) (t : Term) (target : ℕ)
     ≡ (ask (inBounds t bs c) stateBroken λ _.
     choose (eqb (position c) (t .count)) (λ _. ok c) λ _.
     ask (leb target TERMINATED) targetTooLarge λ _.
-    choose (leb target (getD (c .docs) (c .place) 0)) (λ _. ok c) λ _.
-    choose (leb target (c .«last_doc»)) (λ _. within c t target) (λ _. behind c bs t target))
+    choose (leb target (getD (c .docs) (c .held .place) 0)) (λ _. ok c) λ _.
+    choose (leb target (c .held .«last_doc»)) (λ _. within c t target) (λ _. behind c bs t target))
 unfolding seeking
 seeking-is c bs t target = refl

@@ -34,7 +34,7 @@ use Rattle.segment_postings.specs.declared.Reached.{Reached}
 use Rattle.segment_postings.specs.declared.Reached.the-variants as reached-as
 use Rattle.segment_postings.specs.Landing.{firstStart, findBlock, loadBlock, holding, landing}
 use Rattle.segment_postings.specs.Cursor.{position, inBounds, opening, atPlace, startsInside, startBehind, leaving, stepping, answerAt, answering, moved}
-use Rattle.segment_postings.specs.Calls.{cursorOf, heldOf, reached, Reaches}
+use Rattle.segment_postings.specs.Calls.{cursorOf, reached, Reaches}
 use Rattle.segment_postings.specs.Private.{laid, searched, counted, loaded, FindsFrom, BlockLoaded, Lands}
 use Rattle.segment_postings.proofs.core.Question16.{Bounded, bounded}
 use Rattle.segment_postings.proofs.layout.SplitParts.{laid-out}
@@ -96,7 +96,7 @@ none-lands docs freqs e =
     lands-as e (record { answer = refl; docs-are = λ c no. absurd (refused≢ok no); freqs-are = λ c no. absurd (refused≢ok no) })
 
 one-lands : {o : Outcome SegmentPostings} (c : SegmentPostings) {docs freqs : List ℕ} → o ≡ ok c → docs ≡ c .docs → freqs ≡ c .freqs
-    → Lands o docs freqs (reached-as.At (heldOf c))
+    → Lands o docs freqs (reached-as.At (c .held))
 unfolding reached
 one-lands c e d f =
     lands-as e
@@ -107,8 +107,8 @@ one-lands c e d f =
     })
 
 first-is : (f : Found) (unpacked : ℕ) (block : Block) {n size : ℕ} → size ≡ blockSize (f .info) → n ≡ unpacked + 1
-    → heldOf (holding f unpacked block) ≡ first f size n
-unfolding holding heldOf first
+    → holding f unpacked block .held ≡ first f size n
+unfolding holding first
 first-is f unpacked block s e = rw (s, e)
 
 module _ (t : Term) (l : Layout) (bs : List ℕ) (f : Found) (unpacked : ℕ) where
@@ -159,7 +159,7 @@ module _ (t : Term) (bs : List ℕ) (l : Layout) (target : ℕ) (s : Start) wher
 
 pub held-reached : {o : Outcome SegmentPostings} (h : Held) (docs freqs : List ℕ) → o ≡ ok (cursorOf h docs freqs)
     → Reaches o docs freqs docs freqs (reached-as.At h)
-unfolding reached orBefore heldOf cursorOf
+unfolding reached orBefore
 held-reached h docs freqs e = reaches-as e (record { answer = refl; docs-after = refl; freqs-after = refl })
 
 -- ---- opening, and another block: questions 1 to 4, where the block begins, and then a landing
@@ -192,12 +192,12 @@ module _ (bs : List ℕ) (t : Term) where
   opens-from e = record { laid-out = e; block-most = omega arith; inside = laid-out t bs e .inside; entries-most = omega arith }
 
 module _ (c : SegmentPostings) (bs : List ℕ) (t : Term) where
-  pub leaving-laid : (target : ℕ) {l : Layout} → layout t bs ≡ ok l → startsInside t l (c .block + 1) (c .next) ≡ true
-      → leaving c bs t target ≡ landing t bs l target (startBehind c)
+  pub leaving-laid : (target : ℕ) {l : Layout} → layout t bs ≡ ok l → startsInside t l (c .held .block + 1) (c .held .next) ≡ true
+      → leaving c bs t target ≡ landing t bs l target (startBehind (c .held))
   unfolding leaving andThen ask
   leaving-laid target e inside = rw (e, inside)
 
-  pub leaving-early : (target : ℕ) {l : Layout} → layout t bs ≡ ok l → startsInside t l (c .block + 1) (c .next) ≡ false
+  pub leaving-early : (target : ℕ) {l : Layout} → layout t bs ≡ ok l → startsInside t l (c .held .block + 1) (c .held .next) ≡ false
       → leaving c bs t target ≡ refused entryBroken
   unfolding leaving andThen ask
   leaving-early target e early = rw (e, early)
@@ -206,7 +206,7 @@ module _ (c : SegmentPostings) (bs : List ℕ) (t : Term) where
   unfolding leaving andThen
   leaving-refused target e = rw e
 
-  pub leaves-from : {l : Layout} → Bounded t bs c → c .block < t .count / 128 → layout t bs ≡ ok l → FindsFrom t l bs (startBehind c)
+  pub leaves-from : {l : Layout} → Bounded t bs c → c .held .block < t .count / 128 → layout t bs ≡ ok l → FindsFrom t l bs (startBehind (c .held))
   unfolding fullBlocks
   leaves-from b full e = record { laid-out = e; block-most = omega arith; inside = b .next-inside; entries-most = b .entries-behind }
 
@@ -217,22 +217,22 @@ module _ (c : SegmentPostings) (bs : List ℕ) (t : Term) where
   stepping-broken e = rw e
 
   module _ (in-bounds : inBounds t bs c ≡ true) where
-    pub stepping-ended : eqb (128 * c .block + c .place) (t .count) ≡ true → stepping c bs t ≡ ok c
+    pub stepping-ended : eqb (128 * c .held .block + c .held .place) (t .count) ≡ true → stepping c bs t ≡ ok c
     unfolding stepping ask choose position
     stepping-ended e = rw (in-bounds, e)
 
-    module _ (before : eqb (128 * c .block + c .place) (t .count) ≡ false) where
-      pub stepping-within : c .place + 1 < 128 → stepping c bs t ≡ ok (atPlace c (c .place + 1))
+    module _ (before : eqb (128 * c .held .block + c .held .place) (t .count) ≡ false) where
+      pub stepping-within : c .held .place + 1 < 128 → stepping c bs t ≡ ok (atPlace c (c .held .place + 1))
       unfolding stepping ask choose position
       stepping-within h = rw (in-bounds, before, lt-ltb _ _ h)
 
       -- the tail's last place is the end, so that only a full block is left
-      pub leaves-full : 128 ≤ c .place + 1 → c .block < t .count / 128
+      pub leaves-full : 128 ≤ c .held .place + 1 → c .held .block < t .count / 128
       leaves-full h =
           let b = bounded t bs c in-bounds in
           ⊎-elim (λ e. absurd (eqb-false _ _ before e)) (λ l. omega (arith, b .place-below)) (eq-or-lt-of-le (b .position-most))
 
-      pub stepping-leaves : 128 ≤ c .place + 1 → stepping c bs t ≡ leaving c bs t 0
+      pub stepping-leaves : 128 ≤ c .held .place + 1 → stepping c bs t ≡ leaving c bs t 0
       unfolding stepping ask choose position
       stepping-leaves h = rw (in-bounds, before, le-ltb _ _ h)
 
@@ -240,12 +240,12 @@ module _ (c : SegmentPostings) (bs : List ℕ) (t : Term) where
 
 pub landed-at : {o : Outcome SegmentPostings} {docs freqs : List ℕ} {r : Reached} {h : Held}
     → Lands o docs freqs r → r ≡ reached-as.At h → o ≡ ok (cursorOf h docs freqs)
-unfolding reached heldOf cursorOf
+unfolding reached
 landed-at {o} {docs} {freqs} {r} {h} k e = go o (sym (k .answer) ∙ e) (k .docs-are) (k .freqs-are)
   where
     go : (o : Outcome SegmentPostings) → reached o ≡ reached-as.At h → ((c : SegmentPostings) → o ≡ ok c → docs ≡ c .docs)
         → ((c : SegmentPostings) → o ≡ ok c → freqs ≡ c .freqs) → o ≡ ok (cursorOf h docs freqs)
-    go (ok c) a d f = let s : heldOf c ≡ h = cc in rw (d c refl, f c refl) (ap (λ (x : Held). ok (cursorOf x (c .docs) (c .freqs))) s)
+    go (ok c) a d f = let s : c .held ≡ h = cc in rw (d c refl, f c refl) (ap (λ (x : Held). ok (cursorOf x (c .docs) (c .freqs))) s)
     go (refused n) a d f = absurd (let z : _≡_ {A = ℕ} 0 1 = cc in omega arith)
 
 pub landed-nowhere : {o : Outcome SegmentPostings} {docs freqs : List ℕ} {r : Reached} {n : ℕ} → Lands o docs freqs r → r ≡ reached-as.Refused n → o ≡ refused n
@@ -272,7 +272,7 @@ reached-nowhere k = landed-nowhere (reaches-lands k)
 -- two arrays of one's own are stored where a call on them came somewhere, so that a refusal leaves those that are lent
 pub stored-reached : {o : Outcome SegmentPostings} {docs freqs ids counts : List ℕ} {r : Reached} {h : Held} → Lands o ids counts r → r ≡ reached-as.At h
     → Reaches o docs freqs ids counts r
-unfolding orBefore cursorOf
+unfolding orBefore
 stored-reached k e = let at = landed-at k e in record { answer = k .answer; docs-after = rw at; freqs-after = rw at }
 
 pub left-reached : {o : Outcome SegmentPostings} {docs freqs ids counts : List ℕ} {r : Reached} {n : ℕ} → Lands o ids counts r → r ≡ reached-as.Refused n
@@ -280,17 +280,12 @@ pub left-reached : {o : Outcome SegmentPostings} {docs freqs ids counts : List �
 unfolding orBefore
 left-reached k e = let no = landed-nowhere k e in record { answer = k .answer; docs-after = rw no; freqs-after = rw no }
 
--- a cursor taken apart
-pub same-cursor : (c : SegmentPostings) {h : Held} → h ≡ heldOf c → cursorOf h (c .docs) (c .freqs) ≡ c
-unfolding cursorOf heldOf
-same-cursor c e = rw e
-
 -- the answer at a place of a block
-pub answering-at : (t : Term) (c : SegmentPostings) → c .place < 128 → answering t c ≡ answerAt t c
+pub answering-at : (t : Term) (c : SegmentPostings) → c .held .place < 128 → answering t c ≡ answerAt t c
 unfolding answering choose
 answering-at t c below = rw (lt-ltb _ _ below)
 
-pub answering-nowhere : (t : Term) (c : SegmentPostings) → 128 ≤ c .place → answering t c ≡ answer-as.Refused stateBroken
+pub answering-nowhere : (t : Term) (c : SegmentPostings) → 128 ≤ c .held .place → answering t c ≡ answer-as.Refused stateBroken
 unfolding answering choose
 answering-nowhere t c above = rw (le-ltb _ _ above)
 
@@ -299,14 +294,14 @@ pub answerAt-at : (t : Term) (c : SegmentPostings) {n : ℕ} → answerAt t c �
 unfolding answerAt
 answerAt-at t c {n} =
     choose-elim (λ (a : Answer). a ≡ answer-as.Refused n → ⊥) (eqb (position c) (t .count))
-    (λ _. answer-as.At TERMINATED 0 (c .unpacked) (c .entries))
-    (λ _. answer-as.At (getD (c .docs) (c .place) 0) (getD (c .freqs) (c .place) 0) (c .unpacked) (c .entries))
+    (λ _. answer-as.At TERMINATED 0 (c .held .unpacked) (c .held .entries))
+    (λ _. answer-as.At (getD (c .docs) (c .held .place) 0) (getD (c .freqs) (c .held .place) 0) (c .held .unpacked) (c .held .entries))
     (λ _ k. let z : _≡_ {A = ℕ} 0 1 = cc in omega arith)
     (λ _ k. let z : _≡_ {A = ℕ} 0 1 = cc in omega arith)
 
 -- an answer with its cursor
 pub moved-at : (t : Term) (before : SegmentPostings) {o : Outcome SegmentPostings} {a : Answer} {c m : SegmentPostings}
-    → c .place < 128 → a ≡ answering t c → m ≡ c → o ≡ ok c → record { answer = a; cursor = m } ≡ moved t before o
+    → c .held .place < 128 → a ≡ answering t c → m ≡ c → o ≡ ok c → record { answer = a; cursor = m } ≡ moved t before o
 unfolding moved
 moved-at t before {c = c} below answers same e = rw (e, answers, answering-at t c below, same)
 
@@ -318,12 +313,12 @@ moved-nowhere t before k e = rw (reached-nowhere k e)
 
 -- a landing is at its block's first place
 pub landing-first : (t : Term) (bs : List ℕ) (l : Layout) (target : ℕ) (s : Start) {c : SegmentPostings}
-    → landing t bs l target s ≡ ok c → c .place ≡ 0
+    → landing t bs l target s ≡ ok c → c .held .place ≡ 0
 unfolding holding
 landing-first t bs l target s e =
     let found = andThen-ok _ _ (sym (landing-is t bs l target s) ∙ e) in
     let loads = andThen-ok _ _ (found .2) in
-    ap (λ (c : SegmentPostings). c .place) (sym (ok-same (loads .2)))
+    ap (λ (c : SegmentPostings). c .held .place) (sym (ok-same (loads .2)))
 
-pub opening-near : (bs : List ℕ) (t : Term) {c : SegmentPostings} → opening bs t ≡ ok c → c .place < 128
+pub opening-near : (bs : List ℕ) (t : Term) {c : SegmentPostings} → opening bs t ≡ ok c → c .held .place < 128
 opening-near bs t e = omega (arith, landing-first _ _ _ _ _ (andThen-ok _ _ (sym (opening-is bs t) ∙ e) .2))

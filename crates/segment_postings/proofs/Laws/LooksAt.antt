@@ -82,7 +82,7 @@ module _ (c : SegmentPostings) (t : Term) (l : Layout) (bs bs′ : List ℕ) (la
   unfolding andThen
   lands-on-one target there =
       rw (leaving-is c bs t target, leaving-is c bs′ t target, laid, same-layout t l bs bs′ (s .long) (s .front) laid)
-      (rw (landing-looks-at t l bs bs′ target (startBehind c) s there))
+      (rw (landing-looks-at t l bs bs′ target (startBehind (c .held)) s there))
 
   -- .. by a step, to the first block behind it whose last id is at least 0: the next
   pub step-lands-on-one : SameThere c t l bs bs′ 0 → advanced c bs t ≡ advanced c bs′ t

@@ -23,7 +23,7 @@ use Rattle.segment_postings.proofs.seeks.SeekCases.{tested, within-is}
 use Rattle.segment_postings.proofs.Laws.CursorTurns.{leaving-is, stepping-is, behind-is, seeking-is}
 
 abbrev pub Near : Term → SegmentPostings → Type 0
-Near t d = (d .place < 128) × (128 * d .block + d .place ≤ t .count)
+Near t d = (d .held .place < 128) × (128 * d .held .block + d .held .place ≤ t .count)
 
 module _ (c : SegmentPostings) (bs : List ℕ) (t : Term) where
   stays-near : {d : SegmentPostings} → Bounded t bs c → ok c ≡ ok d → Near t d
@@ -31,7 +31,7 @@ module _ (c : SegmentPostings) (bs : List ℕ) (t : Term) where
 
   -- ---- a step
 
-  leaving-near : {d : SegmentPostings} → c .block < fullBlocks t → leaving c bs t 0 ≡ ok d → Near t d
+  leaving-near : {d : SegmentPostings} → c .held .block < fullBlocks t → leaving c bs t 0 ≡ ok d → Near t d
   leaving-near full e =
       let laid = andThen-ok _ _ (sym (leaving-is c bs t 0) ∙ e) in
       let first = landing-first _ _ _ _ _ (ask-ok _ _ _ (laid .2) .1) in

@@ -196,22 +196,22 @@ calls-freq t bs sound cs =
 -- ---- the answers as numbers, entries read included
 
 -- what is answered where a call came to carries the cursor's entries
-answer-numbers : (t : Term) (c : SegmentPostings) → numbers (answerAt t c) ≡ shownNumbers (shown (answerAt t c)) (c .entries)
+answer-numbers : (t : Term) (c : SegmentPostings) → numbers (answerAt t c) ≡ shownNumbers (shown (answerAt t c)) (c .held .entries)
 unfolding answerAt numbers shown shownNumbers
 answer-numbers t c =
-    choose-elim (λ (a : Answer). numbers a ≡ shownNumbers (shown a) (c .entries)) (eqb (position c) (t .count))
-    (λ _. At TERMINATED 0 (c .unpacked) (c .entries))
-    (λ _. At (getD (c .docs) (c .place) 0) (getD (c .freqs) (c .place) 0) (c .unpacked) (c .entries))
+    choose-elim (λ (a : Answer). numbers a ≡ shownNumbers (shown a) (c .held .entries)) (eqb (position c) (t .count))
+    (λ _. At TERMINATED 0 (c .held .unpacked) (c .held .entries))
+    (λ _. At (getD (c .docs) (c .held .place) 0) (getD (c .freqs) (c .held .place) 0) (c .held .unpacked) (c .held .entries))
     (λ _. refl) (λ _. refl)
 
 moved-numbers : (t : Term) (before : SegmentPostings) (o : Outcome SegmentPostings)
-    → numbers (moved t before o .answer) ≡ shownNumbers (shown (moved t before o .answer)) (moved t before o .cursor .entries)
+    → numbers (moved t before o .answer) ≡ shownNumbers (shown (moved t before o .answer)) (moved t before o .cursor .held .entries)
 unfolding moved numbers shown shownNumbers
 moved-numbers t before (ok c) = answer-numbers t c
 moved-numbers t before (refused n) = refl
 
 called-numbers : (c : SegmentPostings) (bs : List ℕ) (t : Term) (call : Call)
-    → numbers (called c bs t call .answer) ≡ shownNumbers (shown (called c bs t call .answer)) (called c bs t call .cursor .entries)
+    → numbers (called c bs t call .answer) ≡ shownNumbers (shown (called c bs t call .answer)) (called c bs t call .cursor .held .entries)
 called-numbers c bs t step = rw called-step (moved-numbers t c (stepping c bs t))
 called-numbers c bs t (seek target) = rw called-seek (moved-numbers t c (seeking c bs t target))
 
@@ -238,7 +238,7 @@ unfolding allNumbers modelNumbers
 none-numbered n ps = refl
 
 module _ {t : Term} {bs : List ℕ} (s : Sound t bs) where
-  entries-agree : {c : SegmentPostings} {m : State} → Agrees s c m → c .entries ≡ entriesRead (t .count) (m .position)
+  entries-agree : {c : SegmentPostings} {m : State} → Agrees s c m → c .held .entries ≡ entriesRead (t .count) (m .position)
   entries-agree k = rw (← k .same-position) (entries-read s (k .holds))
 
   from-numbers : {c : SegmentPostings} {m : State} → Agrees s c m → (cs : List Call)

@@ -31,25 +31,25 @@ use Rattle.segment_postings.proofs.Laws.LandingParts.{starts-behind}
 use Rattle.segment_postings.proofs.Laws.CursorTurns.{landing-is, answerAt-is, opening-is, leaving-is, stepping-is}
 
 pub record Holds {t : Term} {bs : List ℕ} (s : Sound t bs) (c : SegmentPostings) : Type 0 where
-  pub docs-are : c .docs ≡ padded TERMINATED (blockAt (reading t bs .blocks) (c .block) .docs)
-  pub freqs-are : c .freqs ≡ padded 1 (blockAt (reading t bs .blocks) (c .block) .freqs)
-  pub last-is : c .«last_doc» ≡ blockAt (reading t bs .blocks) (c .block) .last
-  pub next-is : c .next ≡ startOf (s .laid) bs (min (fullBlocks t) (c .block + 1))
-  pub entries-are : c .entries ≡ min (fullBlocks t) (c .block + 1)
-  pub block-most : c .block ≤ fullBlocks t
-  pub place-most : c .place < 128
+  pub docs-are : c .docs ≡ padded TERMINATED (blockAt (reading t bs .blocks) (c .held .block) .docs)
+  pub freqs-are : c .freqs ≡ padded 1 (blockAt (reading t bs .blocks) (c .held .block) .freqs)
+  pub last-is : c .held .«last_doc» ≡ blockAt (reading t bs .blocks) (c .held .block) .last
+  pub next-is : c .held .next ≡ startOf (s .laid) bs (min (fullBlocks t) (c .held .block + 1))
+  pub entries-are : c .held .entries ≡ min (fullBlocks t) (c .held .block + 1)
+  pub block-most : c .held .block ≤ fullBlocks t
+  pub place-most : c .held .place < 128
   pub position-most : position c ≤ t .count
-  pub unpacked-some : 1 ≤ c .unpacked
-  pub unpacked-most : c .unpacked ≤ c .block + 1
+  pub unpacked-some : 1 ≤ c .held .unpacked
+  pub unpacked-most : c .held .unpacked ≤ c .held .block + 1
 
 -- a cursor at the first place of the block that a search from block `from` on landed on
 pub record Landed {t : Term} {bs : List ℕ} (s : Sound t bs) (target from unpacked : ℕ) (c : SegmentPostings) : Type 0 where
   pub holds : Holds s c
-  pub place-first : c .place ≡ 0
-  pub unpacked-one : c .unpacked ≡ unpacked + 1
-  pub block-least : from ≤ c .block
-  pub passed : (i : ℕ) → from ≤ i → i < c .block → blockAt (reading t bs .blocks) i .last < target
-  pub reached : c .block < fullBlocks t → target ≤ blockAt (reading t bs .blocks) (c .block) .last
+  pub place-first : c .held .place ≡ 0
+  pub unpacked-one : c .held .unpacked ≡ unpacked + 1
+  pub block-least : from ≤ c .held .block
+  pub passed : (i : ℕ) → from ≤ i → i < c .held .block → blockAt (reading t bs .blocks) i .last < target
+  pub reached : c .held .block < fullBlocks t → target ≤ blockAt (reading t bs .blocks) (c .held .block) .last
 
 module _ {t : Term} {bs : List ℕ} (s : Sound t bs) where
   abbrev blocks : List Block
@@ -90,7 +90,7 @@ module _ {t : Term} {bs : List ℕ} (s : Sound t bs) where
       (_, holding-landed target b unpacked (p .0) few (p .1), rw (landing-is, p .2, p .1 .loads))
 
   -- a search for 0 ends at once
-  pub landed-there : {from unpacked : ℕ} {c : SegmentPostings} → Landed s 0 from unpacked c → c .block ≡ from
+  pub landed-there : {from unpacked : ℕ} {c : SegmentPostings} → Landed s 0 from unpacked c → c .held .block ≡ from
   landed-there {from} {c = c} k =
       ⊎-elim (λ e. sym e) (λ l. absurd (not-suc-le-zero (k .passed from (omega arith) l))) (eq-or-lt-of-le (k .block-least))
 
@@ -105,7 +105,7 @@ module _ {t : Term} {bs : List ℕ} (s : Sound t bs) where
   pub holds-inBounds : {c : SegmentPostings} → Holds s c → inBounds t bs c ≡ true
   unfolding inBounds
   holds-inBounds {c} k =
-      let next-inside : c .next ≤ length bs = rw (k .next-is) (start-inside s (min (fullBlocks t) (c .block + 1)) (omega arith)) in
+      let next-inside : c .held .next ≤ length bs = rw (k .next-is) (start-inside s (min (fullBlocks t) (c .held .block + 1)) (omega arith)) in
       rw (
         le-leb _ _ (k .block-most),
         lt-ltb _ _ (k .place-most),
@@ -113,7 +113,7 @@ module _ {t : Term} {bs : List ℕ} (s : Sound t bs) where
         le-leb _ _ next-inside,
         le-leb _ _ (k .unpacked-most),
       )
-      (le-leb (c .entries) (min (c .block + 1) (fullBlocks t)) (omega (arith, k .entries-are)))
+      (le-leb (c .held .entries) (min (c .held .block + 1) (fullBlocks t)) (omega (arith, k .entries-are)))
 
   -- ---- a step
 
@@ -121,8 +121,8 @@ module _ {t : Term} {bs : List ℕ} (s : Sound t bs) where
   pub record MovesTo (p : ℕ) (c c′ : SegmentPostings) : Type 0 where
     pub holds : Holds s c′
     pub goes : position c′ ≡ p
-    pub stays : c′ .block ≡ c .block → c′ .unpacked ≡ c .unpacked
-    pub grows : c .block < c′ .block → c′ .unpacked ≡ c .unpacked + 1
+    pub stays : c′ .held .block ≡ c .held .block → c′ .held .unpacked ≡ c .held .unpacked
+    pub grows : c .held .block < c′ .held .block → c′ .held .unpacked ≡ c .held .unpacked + 1
 
   module _ {c : SegmentPostings} (k : Holds s c) where
     abbrev Steps : SegmentPostings → Type 0
@@ -132,7 +132,7 @@ module _ {t : Term} {bs : List ℕ} (s : Sound t bs) where
     step-end e = record { holds = k; goes = omega arith; stays = λ _. refl; grows = λ l. absurd (omega arith) }
 
     -- another place of the held block
-    pub place-holds : (p : ℕ) → p < 128 → 128 * c .block + p ≤ t .count → Holds s (atPlace c p)
+    pub place-holds : (p : ℕ) → p < 128 → 128 * c .held .block + p ≤ t .count → Holds s (atPlace c p)
     unfolding atPlace position
     place-holds p l h =
         record {
@@ -148,34 +148,34 @@ module _ {t : Term} {bs : List ℕ} (s : Sound t bs) where
           unpacked-most = k .unpacked-most;
         }
 
-    step-place : position c < t .count → c .place + 1 < 128 → Steps (atPlace c (c .place + 1))
+    step-place : position c < t .count → c .held .place + 1 < 128 → Steps (atPlace c (c .held .place + 1))
     unfolding atPlace position
     step-place h l =
         record {
-          holds = place-holds (c .place + 1) l (omega arith);
+          holds = place-holds (c .held .place + 1) l (omega arith);
           goes = omega arith;
           stays = λ _. refl;
           grows = λ m. absurd (omega arith);
         }
 
     -- leaving a full block
-    pub leaving-landed : (target : ℕ) → c .block < fullBlocks t
-        → (c′ : SegmentPostings) × Landed s target (suc (c .block)) (c .unpacked) c′ × (leaving c bs t target ≡ ok c′)
+    pub leaving-landed : (target : ℕ) → c .held .block < fullBlocks t
+        → (c′ : SegmentPostings) × Landed s target (suc (c .held .block)) (c .held .unpacked) c′ × (leaving c bs t target ≡ ok c′)
     unfolding andThen ask leastAfter
     leaving-landed target h =
-        let p = landing-landed target (suc (c .block)) (c .unpacked) h (omega (arith, k .unpacked-most)) in
-        let last : ℕ = blockAt blocks (c .block) .last in
-        let one-more : min (fullBlocks t) (c .block + 1) ≡ suc (c .block) = omega arith in
-        let least : min (last + 1) TERMINATED ≡ last + 1 = omega (arith, last-below s (c .block) h) in
-        let inside = starts-behind t (s .laid) (suc (c .block)) (startOf (s .laid) bs (suc (c .block))) (omega arith) in
-        (p .0, p .1, rw (leaving-is, s .found, k .next-is, k .last-is, k .entries-are, one-more, least, add-one (c .block), inside) (p .2))
+        let p = landing-landed target (suc (c .held .block)) (c .held .unpacked) h (omega (arith, k .unpacked-most)) in
+        let last : ℕ = blockAt blocks (c .held .block) .last in
+        let one-more : min (fullBlocks t) (c .held .block + 1) ≡ suc (c .held .block) = omega arith in
+        let least : min (last + 1) TERMINATED ≡ last + 1 = omega (arith, last-below s (c .held .block) h) in
+        let inside = starts-behind t (s .laid) (suc (c .held .block)) (startOf (s .laid) bs (suc (c .held .block))) (omega arith) in
+        (p .0, p .1, rw (leaving-is, s .found, k .next-is, k .last-is, k .entries-are, one-more, least, add-one (c .held .block), inside) (p .2))
 
-    step-leaves : position c < t .count → 128 ≤ c .place + 1 → (c′ : SegmentPostings) × Steps c′ × (leaving c bs t 0 ≡ ok c′)
+    step-leaves : position c < t .count → 128 ≤ c .held .place + 1 → (c′ : SegmentPostings) × Steps c′ × (leaving c bs t 0 ≡ ok c′)
     unfolding position
     step-leaves h l =
-        let full : c .block < fullBlocks t = omega (arith, k .place-most, k .block-most, whole-count t, tail-short t) in
+        let full : c .held .block < fullBlocks t = omega (arith, k .place-most, k .block-most, whole-count t, tail-short t) in
         let p = leaving-landed 0 full in
-        let there : p .0 .block ≡ suc (c .block) = landed-there (p .1) in (
+        let there : p .0 .held .block ≡ suc (c .held .block) = landed-there (p .1) in (
           p .0,
           record {
             holds = p .1 .holds;
@@ -189,7 +189,7 @@ module _ {t : Term} {bs : List ℕ} (s : Sound t bs) where
     -- a step that isn't at the end
     stepping-on : position c < t .count
         → stepping c bs t
-        ≡ (choose (ltb (c .place + 1) 128) (λ _. ok (atPlace c (c .place + 1))) λ _. leaving c bs t 0)
+        ≡ (choose (ltb (c .held .place + 1) 128) (λ _. ok (atPlace c (c .held .place + 1))) λ _. leaving c bs t 0)
     unfolding ask choose
     stepping-on h = rw (stepping-is, holds-inBounds k, ne-eqb (position c) (t .count) (λ e. omega arith))
 
@@ -198,11 +198,11 @@ module _ {t : Term} {bs : List ℕ} (s : Sound t bs) where
     stepping-steps =
         ⊎-elim
         (λ e. (c, step-end e, rw (stepping-is, holds-inBounds k, eq-eqb _ _ e)))
-        (λ h. elim (decLe 128 (c .place + 1)) [
-          | yes l ↦ let p = step-leaves h l in (p .0, p .1, rw (stepping-on h, le-ltb (c .place + 1) 128 l) (p .2))
+        (λ h. elim (decLe 128 (c .held .place + 1)) [
+          | yes l ↦ let p = step-leaves h l in (p .0, p .1, rw (stepping-on h, le-ltb (c .held .place + 1) 128 l) (p .2))
           | no l ↦
-              let m : c .place + 1 < 128 = omega arith in
-              (atPlace c (c .place + 1), step-place h m, rw (stepping-on h, lt-ltb (c .place + 1) 128 m))
+              let m : c .held .place + 1 < 128 = omega arith in
+              (atPlace c (c .held .place + 1), step-place h m, rw (stepping-on h, lt-ltb (c .held .place + 1) 128 m))
         ])
         (eq-or-lt-of-le (k .position-most))
 
@@ -227,27 +227,27 @@ module _ {t : Term} {bs : List ℕ} (s : Sound t bs) {c : SegmentPostings} (k : 
   freqs = freqsOf (reading t bs .blocks)
 
   abbrev block : Block
-  block = blockAt (reading t bs .blocks) (c .block)
+  block = blockAt (reading t bs .blocks) (c .held .block)
 
   -- below the count the place is one of the block's documents
-  pub place-there : position c < t .count → (c .place < length (block .docs)) × (c .place < length (block .freqs))
+  pub place-there : position c < t .count → (c .held .place < length (block .docs)) × (c .held .place < length (block .freqs))
   unfolding position
   place-there h = ⊎-elim
       (λ e. let f = tail-sound (sound-blocks s) in rw e (omega (arith, f .sound .docs-many, f .sound .freqs-many, whole-count t)))
-      (λ l. let f = full-sound (sound-blocks s) (c .block) l in omega (arith, f .sound .docs-many, f .sound .freqs-many, k .place-most))
+      (λ l. let f = full-sound (sound-blocks s) (c .held .block) l in omega (arith, f .sound .docs-many, f .sound .freqs-many, k .place-most))
       (eq-or-lt-of-le (k .block-most))
 
-  pub doc-there : position c < t .count → getD (c .docs) (c .place) 0 ≡ getD docs (position c) TERMINATED
+  pub doc-there : position c < t .count → getD (c .docs) (c .held .place) 0 ≡ getD docs (position c) TERMINATED
   unfolding position
   doc-there h =
-      rw (k .docs-are, padded-there _ (block .docs) (c .place) 0 TERMINATED (place-there h .0))
-      (sym (doc-at (sound-blocks s) (c .block) (c .place) TERMINATED (k .block-most) (k .place-most)))
+      rw (k .docs-are, padded-there _ (block .docs) (c .held .place) 0 TERMINATED (place-there h .0))
+      (sym (doc-at (sound-blocks s) (c .held .block) (c .held .place) TERMINATED (k .block-most) (k .place-most)))
 
-  freq-there : position c < t .count → getD (c .freqs) (c .place) 0 ≡ getD freqs (position c) 0
+  freq-there : position c < t .count → getD (c .freqs) (c .held .place) 0 ≡ getD freqs (position c) 0
   unfolding position
   freq-there h =
-      rw (k .freqs-are, padded-there _ (block .freqs) (c .place) 0 0 (place-there h .1))
-      (sym (freq-at (sound-blocks s) (c .block) (c .place) 0 (k .block-most) (k .place-most)))
+      rw (k .freqs-are, padded-there _ (block .freqs) (c .held .place) 0 0 (place-there h .1))
+      (sym (freq-at (sound-blocks s) (c .held .block) (c .held .place) 0 (k .block-most) (k .place-most)))
 
   -- at the end there is none
   no-doc : position c ≡ t .count → getD docs (position c) TERMINATED ≡ TERMINATED
@@ -256,7 +256,7 @@ module _ {t : Term} {bs : List ℕ} (s : Sound t bs) {c : SegmentPostings} (k : 
   no-freq : position c ≡ t .count → getD freqs (position c) 0 ≡ 0
   no-freq e = List·getD-eq-default freqs 0 (omega (arith, freqs-many (sound-blocks s), whole-count t))
 
-  pub answer-holds : answerAt t c ≡ At (getD docs (position c) TERMINATED) (getD freqs (position c) 0) (c .unpacked) (c .entries)
+  pub answer-holds : answerAt t c ≡ At (getD docs (position c) TERMINATED) (getD freqs (position c) 0) (c .held .unpacked) (c .held .entries)
   unfolding choose
   answer-holds =
       ⊎-elim

@@ -58,24 +58,24 @@ module _ {t : Term} {bs : List ℕ} (s : Sound t bs) where
       record { rises = f .sound .docs-rise; few = omega arith; last-place = tail-last _ short; last-most = omega arith }
 
   module _ {c : SegmentPostings} (k : Holds s c) where
-    array : Array (c .block) (c .«last_doc»)
+    array : Array (c .held .block) (c .held .«last_doc»)
     array = ⊎-elim
-        (λ (e : c .block ≡ fullBlocks t). rw (k .last-is, e, tail-sound (sound-blocks s) .ends) array-tail)
-        (λ h. rw (k .last-is) (array-full (c .block) h))
+        (λ (e : c .held .block ≡ fullBlocks t). rw (k .last-is, e, tail-sound (sound-blocks s) .ends) array-tail)
+        (λ h. rw (k .last-is) (array-full (c .held .block) h))
         (eq-or-lt-of-le (k .block-most))
 
-    pub held-rises : rising (leastAt 0 blocks (c .block)) (blockAt blocks (c .block) .docs) ≡ true
+    pub held-rises : rising (leastAt 0 blocks (c .held .block)) (blockAt blocks (c .held .block) .docs) ≡ true
     held-rises = array .rises
 
     abbrev docs : List ℕ
     docs = docsOf blocks
 
-    module _ (target : ℕ) (held : target ≤ c .«last_doc») where
+    module _ (target : ℕ) (held : target ≤ c .held .«last_doc») where
       -- the target's place
       abbrev place : ℕ
       place = searchBlock (c .docs) target
 
-      searches : Searches target (blockAt blocks (c .block) .docs) (c .docs)
+      searches : Searches target (blockAt blocks (c .held .block) .docs) (c .docs)
       searches =
           let a = array in
           rw (k .docs-are)
@@ -88,13 +88,13 @@ module _ {t : Term} {bs : List ℕ} (s : Sound t bs) where
       pub place-reaches : target ≤ getD (c .docs) place 0
       place-reaches = searches .reaches
 
-      module _ (passed : (i : ℕ) → i < c .block → blockAt blocks i .last < target) where
-        pub place-position : 128 * c .block + place ≡ countBelow target docs
+      module _ (passed : (i : ℕ) → i < c .held .block → blockAt blocks i .last < target) where
+        pub place-position : 128 * c .held .block + place ≡ countBelow target docs
         place-position =
-            let there = count-blocks target (sound-blocks s) (c .block) (k .block-most) passed (λ _. rw (← k .last-is) held) in
+            let there = count-blocks target (sound-blocks s) (c .held .block) (k .block-most) passed (λ _. rw (← k .last-is) held) in
             omega (arith, searches .counts)
 
-        pub place-inside : 128 * c .block + place ≤ t .count
+        pub place-inside : 128 * c .held .block + place ≤ t .count
         place-inside = omega (arith, place-position, count-le target docs, docs-many (sound-blocks s), whole-count t)
 
         pub searched-holds : Holds s (atPlace c place)

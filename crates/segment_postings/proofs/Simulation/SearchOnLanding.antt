@@ -64,7 +64,7 @@ pub record Placed (t : Term) (target : ℕ) (d : SegmentPostings) : Type 0 where
   pub place-counts : placeOf d target ≡ countBelow target (d .docs)
   pub place-below : placeOf d target < 128
   pub place-reaches : target ≤ getD (d .docs) (placeOf d target) 0
-  pub position-most : 128 * d .block + placeOf d target ≤ t .count
+  pub position-most : 128 * d .held .block + placeOf d target ≤ t .count
 
 module _ (t : Term) (bs : List ℕ) (l : Layout) (target : ℕ) (small : target ≤ TERMINATED) where
   holding-placed : (f : Found) (unpacked : ℕ) (b : Block) (least : ℕ) → rising least (b .docs) ≡ true → length (b .docs) ≤ 128
@@ -112,7 +112,7 @@ module _ (t : Term) (bs : List ℕ) (l : Layout) (target : ℕ) (small : target 
       (load-placed (found .0) (s .unpacked) (omega (arith, k .block-most)) (λ m. k .reaches (omega arith)) (block .1))
 
 pub leaving-placed : (c : SegmentPostings) (bs : List ℕ) (t : Term) (target : ℕ) {d : SegmentPostings} → target ≤ TERMINATED
-    → c .block < fullBlocks t → leaving c bs t target ≡ ok d → Placed t target d
+    → c .held .block < fullBlocks t → leaving c bs t target ≡ ok d → Placed t target d
 leaving-placed c bs t target small full e =
     let laid = andThen-ok _ _ (sym (leaving-is c bs t target) ∙ e) in
-    landing-placed t bs _ target small (startBehind c) (omega arith) (ask-ok _ _ _ (laid .2) .1)
+    landing-placed t bs _ target small (startBehind (c .held)) (omega arith) (ask-ok _ _ _ (laid .2) .1)

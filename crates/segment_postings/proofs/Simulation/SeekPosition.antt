@@ -35,11 +35,11 @@ module _ {t : Term} {bs : List ℕ} (s : Sound t bs) where
 
   module _ {c : SegmentPostings} (k : Holds s c) (target : ℕ) (inside : position c < t .count) where
     -- the present document is at least the target: nowhere
-    pub seek-stays : target ≤ getD (c .docs) (c .place) 0 → firstAt target ≤ position c
+    pub seek-stays : target ≤ getD (c .docs) (c .held .place) 0 → firstAt target ≤ position c
     seek-stays h =
         by-contra _ _ (λ m. omega (arith, count-below target (docsOf blocks) (position c) TERMINATED m, doc-there s k inside))
 
-    module _ (ahead : getD (c .docs) (c .place) 0 < target) where
+    module _ (ahead : getD (c .docs) (c .held .place) 0 < target) where
       -- the present one lies below it, so onward
       pub seek-onward : position c < firstAt target
       seek-onward =
@@ -47,20 +47,20 @@ module _ {t : Term} {bs : List ℕ} (s : Sound t bs) where
           (omega (arith, docs-many (sound-blocks s), whole-count t)) (omega (arith, doc-there s k inside))
 
       -- the blocks before the held one end below it too
-      pub earlier : (i : ℕ) → i < c .block → blockAt blocks i .last < target
+      pub earlier : (i : ℕ) → i < c .held .block → blockAt blocks i .last < target
       earlier i h =
-          let ds : List ℕ = blockAt blocks (c .block) .docs in
+          let ds : List ℕ = blockAt blocks (c .held .block) .docs in
           let there = place-there s k inside .0 in
-          let same = ap (λ xs. getD xs (c .place) 0) (k .docs-are) ∙ padded-there TERMINATED ds (c .place) 0 0 there in
-          let least = rising-at (leastAt 0 blocks (c .block)) ds (c .place) 0 (held-rises s k) there in
-          lt-trans (above-earlier (sound-blocks s) (c .block) _ (k .block-most) (rw same least) i h) ahead
+          let same = ap (λ xs. getD xs (c .held .place) 0) (k .docs-are) ∙ padded-there TERMINATED ds (c .held .place) 0 0 there in
+          let least = rising-at (leastAt 0 blocks (c .held .block)) ds (c .held .place) 0 (held-rises s k) there in
+          lt-trans (above-earlier (sound-blocks s) (c .held .block) _ (k .block-most) (rw same least) i h) ahead
 
       -- the held block's last id is at least the target: to a later place in it
-      pub within-onward : (held : target ≤ c .«last_doc») → c .place < searchBlock (c .docs) target
+      pub within-onward : (held : target ≤ c .held .«last_doc») → c .held .place < searchBlock (c .docs) target
       unfolding position
       within-onward held = omega (arith, seek-onward, place-position s k target held earlier)
 
-      pub within-moves : target ≤ c .«last_doc» → MovesTo s (firstAt target) c (atPlace c (searchBlock (c .docs) target))
+      pub within-moves : target ≤ c .held .«last_doc» → MovesTo s (firstAt target) c (atPlace c (searchBlock (c .docs) target))
       unfolding atPlace position
       within-moves held =
           record {
@@ -71,24 +71,24 @@ module _ {t : Term} {bs : List ℕ} (s : Sound t bs) where
           }
 
   -- .. else to the block that the entries lead to
-  module _ {c : SegmentPostings} (k : Holds s c) (target : ℕ) (left : c .«last_doc» < target) (most : target ≤ TERMINATED) where
-    pub left-full : c .block < fullBlocks t
+  module _ {c : SegmentPostings} (k : Holds s c) (target : ℕ) (left : c .held .«last_doc» < target) (most : target ≤ TERMINATED) where
+    pub left-full : c .held .block < fullBlocks t
     left-full = ⊎-elim
         (λ e. absurd (omega (arith, k .last-is ∙ ap (λ b. blockAt blocks b .last) e ∙ tail-sound (sound-blocks s) .ends)))
         (λ l. l)
         (eq-or-lt-of-le (k .block-most))
 
-    module _ {c′ : SegmentPostings} (l : Landed s target (suc (c .block)) (c .unpacked) c′) where
-      landed-held : target ≤ c′ .«last_doc»
+    module _ {c′ : SegmentPostings} (l : Landed s target (suc (c .held .block)) (c .held .unpacked) c′) where
+      landed-held : target ≤ c′ .held .«last_doc»
       landed-held = ⊎-elim
           (λ e. omega (arith, l .holds .last-is ∙ ap (λ b. blockAt blocks b .last) e ∙ tail-sound (sound-blocks s) .ends))
           (λ m. rw (l .holds .last-is) (l .reached m))
           (eq-or-lt-of-le (l .holds .block-most))
 
-      landed-passed : (i : ℕ) → i < c′ .block → blockAt blocks i .last < target
-      landed-passed i h = elim (decLe (suc (c .block)) i) [
+      landed-passed : (i : ℕ) → i < c′ .held .block → blockAt blocks i .last < target
+      landed-passed i h = elim (decLe (suc (c .held .block)) i) [
         | yes m ↦ l .passed i m h
-        | no m ↦ above-earlier (sound-blocks s) (suc (c .block)) target left-full (omega (arith, k .last-is)) i (omega arith)
+        | no m ↦ above-earlier (sound-blocks s) (suc (c .held .block)) target left-full (omega (arith, k .last-is)) i (omega arith)
       ]
 
       landed-moves : MovesTo s (firstAt target) c (atPlace c′ (searchBlock (c′ .docs) target))

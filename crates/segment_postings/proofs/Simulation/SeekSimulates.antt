@@ -54,7 +54,7 @@ module _ {t : Term} {bs : List ℕ} (s : Sound t bs) where
     abbrev Seeks : SegmentPostings → Type 0
     Seeks c′ = MovesTo s (max (position c) (countBelow target docs)) c c′
 
-    within-ok : (inside : position c < t .count) (ahead : getD (c .docs) (c .place) 0 < target) (held : target ≤ c .«last_doc»)
+    within-ok : (inside : position c < t .count) (ahead : getD (c .docs) (c .held .place) 0 < target) (held : target ≤ c .held .«last_doc»)
         → within c t target ≡ ok (atPlace c (placeOf c target))
     unfolding within placeOf
     within-ok inside ahead held =
@@ -66,22 +66,22 @@ module _ {t : Term} {bs : List ℕ} (s : Sound t bs) where
         )
 
     -- where the present document lies below the target
-    onward : (inside : position c < t .count) (ahead : getD (c .docs) (c .place) 0 < target)
+    onward : (inside : position c < t .count) (ahead : getD (c .docs) (c .held .place) 0 < target)
         → (c′ : SegmentPostings) × MovesTo s (countBelow target docs) c c′
-        × (choose (leb target (c .«last_doc»)) (λ _. within c t target) (λ _. behind c bs t target) ≡ ok c′)
+        × (choose (leb target (c .held .«last_doc»)) (λ _. within c t target) (λ _. behind c bs t target) ≡ ok c′)
     unfolding choose ask andThen placeOf
-    onward inside ahead = elim (decLe target (c .«last_doc»)) [
+    onward inside ahead = elim (decLe target (c .held .«last_doc»)) [
       | yes held ↦ (_, within-moves s k target inside ahead held, rw (le-leb target _ held, within-ok inside ahead held))
       | no left ↦
-          let below : c .«last_doc» < target = omega arith in
+          let below : c .held .«last_doc» < target = omega arith in
           let p = leaving-moves s k target below most in
           (_, p .2, rw (lt-leb target _ below, behind-is, lt-ltb _ _ (left-full s k target below most), p .1))
     ]
 
     seeking-on : position c < t .count
         → seeking c bs t target
-        ≡ (choose (leb target (getD (c .docs) (c .place) 0)) (λ _. ok c) λ _.
-        choose (leb target (c .«last_doc»)) (λ _. within c t target) (λ _. behind c bs t target))
+        ≡ (choose (leb target (getD (c .docs) (c .held .place) 0)) (λ _. ok c) λ _.
+        choose (leb target (c .held .«last_doc»)) (λ _. within c t target) (λ _. behind c bs t target))
     unfolding ask choose
     seeking-on h =
         rw (seeking-is, holds-inBounds s k, ne-eqb (position c) (t .count) (λ e. omega arith), le-leb target TERMINATED most)
@@ -93,12 +93,12 @@ module _ {t : Term} {bs : List ℕ} (s : Sound t bs) where
         (λ e.
         let here : max (position c) (countBelow target docs) ≡ position c = omega (arith, count-le target docs, docs-count s) in
         (c, rw here (stands k), seeking-end k target e))
-        (λ inside. elim (decLe target (getD (c .docs) (c .place) 0)) [
+        (λ inside. elim (decLe target (getD (c .docs) (c .held .place) 0)) [
           | yes h ↦
               let here : max (position c) (countBelow target docs) ≡ position c = omega (arith, seek-stays s k target inside h) in
               (c, rw here (stands k), rw (seeking-on inside, le-leb target _ h))
           | no h ↦
-              let ahead : getD (c .docs) (c .place) 0 < target = omega arith in
+              let ahead : getD (c .docs) (c .held .place) 0 < target = omega arith in
               let further = seek-onward s k target inside ahead in
               let there : max (position c) (countBelow target docs) ≡ countBelow target docs = omega arith in
               let p = onward inside ahead in

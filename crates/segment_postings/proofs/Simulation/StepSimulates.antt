@@ -25,7 +25,7 @@ use Rattle.segment_postings.proofs.Simulation.HoldsBlock.{Holds, MovesT
 pub record Agrees {t : Term} {bs : List ℕ} (s : Sound t bs) (c : SegmentPostings) (m : State) : Type 0 where
   pub holds : Holds s c
   pub same-position : position c ≡ m .position
-  pub same-count : c .unpacked ≡ length (m .visited)
+  pub same-count : c .held .unpacked ≡ length (m .visited)
   pub tracked : Tracked (length (docsOf (reading t bs .blocks))) m
 
 module _ {t : Term} {bs : List ℕ} (s : Sound t bs) where
@@ -39,11 +39,11 @@ module _ {t : Term} {bs : List ℕ} (s : Sound t bs) where
   docs-count = docs-many (sound-blocks s) ∙ whole-count t
 
   -- the held block is the position's
-  pub block-of : {c : SegmentPostings} → Holds s c → position c / 128 ≡ c .block
+  pub block-of : {c : SegmentPostings} → Holds s c → position c / 128 ≡ c .held .block
   unfolding position
   block-of k = omega (arith, k .place-most)
 
-  pub entries-read : {c : SegmentPostings} → Holds s c → c .entries ≡ entriesRead (t .count) (position c)
+  pub entries-read : {c : SegmentPostings} → Holds s c → c .held .entries ≡ entriesRead (t .count) (position c)
   unfolding entriesRead fullBlocks
   entries-read k = k .entries-are ∙ ap (λ b. min (t .count / 128) (b + 1)) (sym (block-of k))
 
@@ -71,9 +71,9 @@ module _ {t : Term} {bs : List ℕ} (s : Sound t bs) where
         → Agrees s c′ (after docs m call)
     moves-agree call {p} {c′} k′ e =
         let grown = after-grown docs (k .tracked) call in
-        let was : blockOf m ≡ c .block = rw (← k .same-position) (block-of (k .holds)) in
-        let is : blockOf (after docs m call) ≡ c′ .block = rw (e, ← k′ .goes) (block-of (k′ .holds)) in
-        let onward : c .block ≤ c′ .block = omega (arith, grown .onward) in
+        let was : blockOf m ≡ c .held .block = rw (← k .same-position) (block-of (k .holds)) in
+        let is : blockOf (after docs m call) ≡ c′ .held .block = rw (e, ← k′ .goes) (block-of (k′ .holds)) in
+        let onward : c .held .block ≤ c′ .held .block = omega (arith, grown .onward) in
         record {
           holds = k′ .holds;
           same-position = k′ .goes ∙ sym e;

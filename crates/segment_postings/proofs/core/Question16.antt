@@ -14,13 +14,13 @@ use Rattle.segment_postings.specs.declared.SegmentPostings.{SegmentPosti
 use Rattle.segment_postings.specs.Cursor.{inBounds}
 
 pub record Bounded (t : Term) (bs : List ℕ) (c : SegmentPostings) : Type 0 where
-  pub block-most : c .block ≤ t .count / 128
-  pub place-below : c .place < 128
-  pub position-most : 128 * c .block + c .place ≤ t .count
-  pub next-inside : c .next ≤ length bs
-  pub unpacked-most : c .unpacked ≤ c .block + 1
-  pub entries-behind : c .entries ≤ c .block + 1
-  pub entries-most : c .entries ≤ t .count / 128
+  pub block-most : c .held .block ≤ t .count / 128
+  pub place-below : c .held .place < 128
+  pub position-most : 128 * c .held .block + c .held .place ≤ t .count
+  pub next-inside : c .held .next ≤ length bs
+  pub unpacked-most : c .held .unpacked ≤ c .held .block + 1
+  pub entries-behind : c .held .entries ≤ c .held .block + 1
+  pub entries-most : c .held .entries ≤ t .count / 128
 
 module _ (t : Term) (bs : List ℕ) (c : SegmentPostings) where
   pub bounded : inBounds t bs c ≡ true → Bounded t bs c

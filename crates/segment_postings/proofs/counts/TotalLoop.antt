@@ -23,7 +23,6 @@ use Rattle.format.proofs.Below.{count-le}
 use Rattle.segment_postings.specs.declared.counts.Front.{Front}
 use Rattle.segment_postings.specs.declared.Held.{Held}
 use Rattle.segment_postings.specs.declared.find.Start.{Start}
-use Rattle.segment_postings.specs.Calls.{cursorOf}
 use Rattle.segment_postings.specs.Cursor.{startBehind}
 use Rattle.segment_postings.specs.Landing.{firstStart, landing}
 use Rattle.segment_postings.specs.Passed.{docsIn, FrontOf}
@@ -106,7 +105,7 @@ module _ {t : Term} {l : Layout} {bs : List ℕ} {target : ℕ} {s : Start} {pas
           ∙ ap (λ (o : Outcome ℕ). added (passed + r .freqs) o) (total-ended target)
           ∙ ap (λ (m : ℕ). ok m) (add-zero (passed + r .freqs))
 
-      pub walk-goes-on : {s′ : Start} → s .block < fullBlocks t → s′ ≡ startBehind (cursorOf h docs freqs) → Walked t l bs target s′ (passed + r .freqs)
+      pub walk-goes-on : {s′ : Start} → s .block < fullBlocks t → s′ ≡ startBehind h → Walked t l bs target s′ (passed + r .freqs)
       walk-goes-on some is =
           let next = turn t l bs (w .walks) k some is in
           record {

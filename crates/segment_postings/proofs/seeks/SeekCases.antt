@@ -2,7 +2,7 @@
 -- Assumes nothing.
 use mathlib.Core.Bool.{Bool, true, false, _&&_ as and, and-eq-true-iff}
 use mathlib.Core.List.{List}
-use mathlib.Core.Path.{_≡_, refl, sym, ap}
+use mathlib.Core.Path.{_≡_, refl}
 use Prim.Native.Nat.{ℕ, _+_, _*_, _/_, _≤_, _<_}
 use borrow.Author.Tests.{leb-true, ltb-true, le-leb, lt-leb, lt-ltb, le-ltb}
 use lib.Dec.{eqb, leb, ltb}
@@ -16,8 +16,8 @@ use Rattle.segment_postings.specs.declared.Held.{Held}
 use Rattle.segment_postings.specs.declared.Reached.{Reached}
 use Rattle.segment_postings.specs.declared.Reached.the-variants as reached-as
 use Rattle.segment_postings.specs.declared.SegmentPostings.{SegmentPostings}
-use Rattle.segment_postings.specs.Cursor.{inBounds, position, opening, atPlace, leaving, placeOf, within, behind, seeking, ranking}
-use Rattle.segment_postings.specs.Calls.{cursorOf, heldOf, reached, Reaches}
+use Rattle.segment_postings.specs.Cursor.{inBounds, position, opening, heldAt, atPlace, leaving, placeOf, within, behind, seeking, ranking}
+use Rattle.segment_postings.specs.Calls.{cursorOf, reached, Reaches}
 use Rattle.segment_postings.proofs.Laws.LandingParts.{reaches-as, reached-at, reached-nowhere}
 use Rattle.segment_postings.proofs.Laws.CursorTurns.{behind-is, seeking-is}
 
@@ -34,30 +34,28 @@ module _ {o : Outcome SegmentPostings} {docs freqs docs′ freqs′ : List ℕ} 
 
   -- the target's place in the block that it came to
   pub then-placed : (target : ℕ) {h h′ : Held} {p : ℕ} → r ≡ reached-as.At h → p ≡ searchBlock docs′ target
-      → cursorOf h′ docs′ freqs′ ≡ atPlace (cursorOf h docs′ freqs′) p
-      → Reaches (andThen o λ landed. ok (atPlace landed (placeOf landed target))) docs freqs docs′ freqs′ (reached-as.At h′)
-  unfolding andThen placeOf reached orBefore heldOf cursorOf
+      → h′ ≡ heldAt h p → Reaches (andThen o λ landed. ok (atPlace landed (placeOf landed target))) docs freqs docs′ freqs′ (reached-as.At h′)
+  unfolding andThen placeOf atPlace reached orBefore
   then-placed target {h′ = h′} e place same =
-      let there = reached-at k e in
-      reaches-as {o′ = ok (cursorOf h′ docs′ freqs′)} (rw (there, ← place) (ap ok (sym same)))
+      reaches-as {o′ = ok (cursorOf h′ docs′ freqs′)} (rw (reached-at k e, same, place))
       (record { answer = refl; docs-after = refl; freqs-after = refl })
 
 -- ---- in the held block
 
 -- a place of the held block that may hold the target's document
 pub record MayHold (t : Term) (c : SegmentPostings) (target p : ℕ) : Type 0 where
-  pub ahead : c .place < p
+  pub ahead : c .held .place < p
   pub inside : p < 128
   pub reaches : target ≤ getD (c .docs) p 0
-  pub counted : 128 * c .block + p ≤ t .count
+  pub counted : 128 * c .held .block + p ≤ t .count
 
 module _ (c : SegmentPostings) (t : Term) (target : ℕ) where
   abbrev pub tests : ℕ → Bool
   tests p =
-      and (ltb (c .place) p)
+      and (ltb (c .held .place) p)
       (and (ltb p 128)
       (and (leb target (getD (c .docs) p 0))
-      (leb (128 * c .block + p) (t .count))))
+      (leb (128 * c .held .block + p) (t .count))))
 
   pub tested : {p : ℕ} → tests p ≡ true → MayHold t c target p
   tested e =
@@ -92,11 +90,11 @@ module _ (c : SegmentPostings) (t : Term) (target : ℕ) where
 -- ---- behind it
 
 module _ (c : SegmentPostings) (bs : List ℕ) (t : Term) (target : ℕ) where
-  pub behind-tail : t .count / 128 ≤ c .block → behind c bs t target ≡ refused stateBroken
+  pub behind-tail : t .count / 128 ≤ c .held .block → behind c bs t target ≡ refused stateBroken
   unfolding ask fullBlocks
   behind-tail h = rw (behind-is, le-ltb _ _ h)
 
-  pub behind-full : c .block < t .count / 128
+  pub behind-full : c .held .block < t .count / 128
       → behind c bs t target ≡ andThen (leaving c bs t target) λ landed. ok (atPlace landed (placeOf landed target))
   unfolding ask fullBlocks
   behind-full h = rw (behind-is, lt-ltb _ _ h)
@@ -109,26 +107,26 @@ module _ (c : SegmentPostings) (bs : List ℕ) (t : Term) (target : ℕ) where
   seeking-broken e = rw (seeking-is, e)
 
   module _ (in-bounds : inBounds t bs c ≡ true) where
-    pub seeking-ended : eqb (128 * c .block + c .place) (t .count) ≡ true → seeking c bs t target ≡ ok c
+    pub seeking-ended : eqb (128 * c .held .block + c .held .place) (t .count) ≡ true → seeking c bs t target ≡ ok c
     unfolding ask choose position
     seeking-ended e = rw (seeking-is, in-bounds, e)
 
-    module _ (before : eqb (128 * c .block + c .place) (t .count) ≡ false) where
+    module _ (before : eqb (128 * c .held .block + c .held .place) (t .count) ≡ false) where
       pub seeking-too-large : TERMINATED < target → seeking c bs t target ≡ refused targetTooLarge
       unfolding ask choose position
       seeking-too-large h = rw (seeking-is, in-bounds, before, lt-leb _ _ h)
 
       module _ (small : target ≤ TERMINATED) where
-        pub seeking-stays : target ≤ getD (c .docs) (c .place) 0 → seeking c bs t target ≡ ok c
+        pub seeking-stays : target ≤ getD (c .docs) (c .held .place) 0 → seeking c bs t target ≡ ok c
         unfolding ask choose position
         seeking-stays h = rw (seeking-is, in-bounds, before, le-leb _ _ small, le-leb _ _ h)
 
-        module _ (ahead : getD (c .docs) (c .place) 0 < target) where
-          pub seeking-within : target ≤ c .«last_doc» → seeking c bs t target ≡ within c t target
+        module _ (ahead : getD (c .docs) (c .held .place) 0 < target) where
+          pub seeking-within : target ≤ c .held .«last_doc» → seeking c bs t target ≡ within c t target
           unfolding ask choose position
           seeking-within h = rw (seeking-is, in-bounds, before, le-leb _ _ small, lt-leb _ _ ahead, le-leb _ _ h)
 
-          pub seeking-behind : c .«last_doc» < target → seeking c bs t target ≡ behind c bs t target
+          pub seeking-behind : c .held .«last_doc» < target → seeking c bs t target ≡ behind c bs t target
           unfolding ask choose position
           seeking-behind h = rw (seeking-is, in-bounds, before, le-leb _ _ small, lt-leb _ _ ahead, lt-leb _ _ h)
 
@@ -160,6 +158,6 @@ module _ (mode count : ℕ) (bs : List ℕ) (target : ℕ) where
       unfolding ask andThen
       ranking-unsought e = rw (ranking-is, le-leb _ _ small, opens, e)
 
-      pub ranking-found : {d : SegmentPostings} → seeking c bs term target ≡ ok d → ranking mode count bs target ≡ ok (128 * d .block + d .place)
+      pub ranking-found : {d : SegmentPostings} → seeking c bs term target ≡ ok d → ranking mode count bs target ≡ ok (128 * d .held .block + d .held .place)
       unfolding ask andThen position
       ranking-found e = rw (ranking-is, le-leb _ _ small, opens, e)

@@ -18,7 +18,6 @@ use Rattle.format.proofs.Blocks.{docs-many, freqs-many}
 use Rattle.format.proofs.Sound.{sound-image, sound-blocks, whole-count}
 use Rattle.segment_postings.specs.declared.Held.{Held}
 use Rattle.segment_postings.specs.declared.find.Start.{Start}
-use Rattle.segment_postings.specs.Calls.{cursorOf}
 use Rattle.segment_postings.specs.Cursor.{startBehind}
 use Rattle.segment_postings.specs.Landing.{firstStart, landing}
 use Rattle.segment_postings.specs.Passed.{docsIn}
@@ -134,7 +133,7 @@ module _ {t : Term} {l : Layout} {bs docs₀ freqs₀ : List ℕ} {s : Start} {d
       pub freqs-kept : length freqs′ ≡ length freqs₀
       freqs-kept = rw (put-freqs, length-putAt) (w .freqs-same)
 
-      pub copy-goes-on : {s′ : Start} → s .block < fullBlocks t → s′ ≡ startBehind (cursorOf h ids counts) → Copied t l bs docs₀ freqs₀ s′ docs′ freqs′
+      pub copy-goes-on : {s′ : Start} → s .block < fullBlocks t → s′ ≡ startBehind h → Copied t l bs docs₀ freqs₀ s′ docs′ freqs′
       copy-goes-on some is =
           let next = turn t l bs (w .walks) k some is in
           let e = next .reads in

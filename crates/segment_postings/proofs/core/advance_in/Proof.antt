@@ -24,26 +24,22 @@ in-bounds : (c : tie.Else1) → let s = c .before .before .before in
 in-bounds c = sym (c .before .in-bounds .ensures _ _ _ refl) ∙ not-false _ (c .if1 .left)
 
 at-end-requires : tie.Need-at-end-requires
-unfolding cursorOf
 at-end-requires c κs = bounded _ _ _ (in-bounds c) .place-below
 
 returns-2 : tie.Need-returns-2
-unfolding cursorOf
 returns-2 c =
     held-reached _ _ _ (stepping-ended _ _ _ (in-bounds (c .before .before)) (sym (c .before .at-end .ensures) ∙ c .if2 .taken))
 
 add-place : tie.Need-add-place
-unfolding cursorOf
 add-place c = omega (arith, bounded _ _ _ (in-bounds (c .before .before .before)))
 
 returns-3 : tie.Need-returns-3
-unfolding cursorOf atPlace
+unfolding atPlace
 returns-3 c =
     let e = c .before .before in
     held-reached _ _ _ (stepping-within _ _ _ (in-bounds (e .before .before)) (sym (e .before .at-end .ensures) ∙ e .if2 .left) (c .if3 .taken))
 
 leave-whole-requires : tie.Need-leave-whole-requires
-unfolding cursorOf
 leave-whole-requires c κs =
     let f = c .before .before in
     let e = f .before .before in
@@ -51,7 +47,6 @@ leave-whole-requires c κs =
     (inside, leaves-full _ _ _ inside (sym (e .before .at-end .ensures) ∙ e .if2 .left) (f .if3 .left))
 
 returns-4 : tie.Need-returns-4
-unfolding cursorOf
 returns-4 c =
     let f = c .before .before .before in
     let e = f .before .before in

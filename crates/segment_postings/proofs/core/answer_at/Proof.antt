@@ -8,14 +8,12 @@ use Rattle.segment_postings.proofs.core.answer_at.Statement.{statement}
 use Rattle.segment_postings.proofs.core.answer_at.Tie as tie
 
 returns : tie.Need-returns
-unfolding cursorOf
 returns c = sym (answering-nowhere _ _ (c .if1 .taken))
 
 shown-at-requires : tie.Need-shown-at-requires
 shown-at-requires c κs = omega arith
 
 returns-2 : tie.Need-returns-2
-unfolding cursorOf
 returns-2 c = c .shown-at .ensures ∙ sym (answering-at _ _ (omega arith))
 
 pub answer-at-spec : {M : Type 1} → statement M

@@ -12,11 +12,9 @@ cast-count : tie.Need-cast-count
 cast-count c = search needs
 
 returns : tie.Need-returns
-unfolding cursorOf
 returns c bs docs freqs e = out-of-bounds _ bs _ (λ b. omega arith)
 
 returns-2 : tie.Need-returns-2
-unfolding cursorOf
 returns-2 c bs docs freqs e = out-of-bounds _ bs _ (λ b. omega arith)
 
 mul-if3 : tie.Need-mul-if3
@@ -26,30 +24,24 @@ add-if3 : tie.Need-add-if3
 add-if3 c = search needs
 
 returns-3 : tie.Need-returns-3
-unfolding cursorOf
 returns-3 c bs docs freqs e = out-of-bounds _ bs _ (λ b. omega arith)
 
 returns-4 : tie.Need-returns-4
-unfolding cursorOf
 returns-4 c bs docs freqs e = out-of-bounds _ bs _ (λ b. omega arith)
 
 add-reached : tie.Need-add-reached
 add-reached c = search needs
 
 returns-5 : tie.Need-returns-5
-unfolding cursorOf
 returns-5 c bs docs freqs e = out-of-bounds _ bs _ (λ b. omega arith)
 
 returns-6 : tie.Need-returns-6
-unfolding cursorOf
 returns-6 c bs docs freqs e = out-of-bounds _ bs _ (λ b. omega arith)
 
 returns-7 : tie.Need-returns-7
-unfolding cursorOf
 returns-7 c bs docs freqs e = out-of-bounds _ bs _ (λ b. omega arith)
 
 returns-8 : tie.Need-returns-8
-unfolding cursorOf
 returns-8 c bs docs freqs e =
     sym
     (in-bounds _ bs _

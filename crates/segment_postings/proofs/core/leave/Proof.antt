@@ -27,16 +27,14 @@ in-bounds : (s : tie.Start) → Bounded (s .args .term) (s .args .image .now) (c
 in-bounds s = bounded _ _ _ (s .pre .0 [] [])
 
 few : (s : tie.Start) → s .args .held .unpacked + 1 < 2 ^ 64
-unfolding cursorOf
 few s = omega (arith, in-bounds s)
 
 start-behind-requires : tie.Need-start-behind-requires
-unfolding cursorOf
 start-behind-requires c κs = omega (arith, in-bounds (c .before .before .before .before .before))
 
 -- the start behind the held block
-behind : (k : tie.After-start-behind) (ds fs : List ℕ) → let s = k .before .before .before .before .before .before in
-    k .start-behind .result ≡ startBehind (cursorOf (s .args .held) ds fs)
+behind : (k : tie.After-start-behind) → let s = k .before .before .before .before .before .before in
+    k .start-behind .result ≡ startBehind (s .args .held)
 behind k = k .start-behind .ensures
 
 starts-inside-requires : tie.Need-starts-inside-requires
@@ -47,30 +45,27 @@ laid : (l : tie.After-layout) → let s = l .before .before .before .before in
 laid l = laid-at _ (sym (l .before .before .lay-out .ensures) ∙ l .layout .given .1)
 
 returns : tie.Need-returns
-unfolding cursorOf
 returns c ds fs =
     let k = c .before in
-    none-lands _ _ (leaving-early (cursorOf _ ds fs) _ _ _ (laid (k .before .before .before)) (rw (behind (k .before) ds fs) at (sym (k .starts-inside .ensures) ∙ not-true _ (c .if1 .taken))))
+    none-lands _ _ (leaving-early (cursorOf _ ds fs) _ _ _ (laid (k .before .before .before)) (rw (behind (k .before)) at (sym (k .starts-inside .ensures) ∙ not-true _ (c .if1 .taken))))
 
 land-requires : tie.Need-land-requires
-unfolding cursorOf
 land-requires c κs =
     let k = c .before .before .before .before in
     let l = k .before .before in
     let s = l .before .before .before .before in
-    rw (behind k [] []) (leaves-from _ _ _ (in-bounds s) (s .pre .1) (laid l), few s)
+    rw (behind k) (leaves-from _ _ _ (in-bounds s) (s .pre .1) (laid l), few s)
 
 enum-known-again : tie.Need-enum-known-again
 enum-known-again c = search needs
 
 returns-2 : tie.Need-returns-2
-unfolding cursorOf
 returns-2 c ds fs =
     let e = c .before .before .before in
     let k = e .before in
     lands-as
-    (leaving-laid (cursorOf _ ds fs) _ _ _ (laid (k .before .before .before)) (rw (behind (k .before) ds fs) at (sym (k .starts-inside .ensures) ∙ not-false _ (e .if1 .left))))
-    (rw (behind (k .before) ds fs) at (c .land .ensures))
+    (leaving-laid (cursorOf _ ds fs) _ _ _ (laid (k .before .before .before)) (rw (behind (k .before)) at (sym (k .starts-inside .ensures) ∙ not-false _ (e .if1 .left))))
+    (rw (behind (k .before)) at (c .land .ensures))
 
 returns-3 : tie.Need-returns-3
 returns-3 c ds fs =

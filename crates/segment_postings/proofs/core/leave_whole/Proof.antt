@@ -1,14 +1,13 @@
 -- `segment_postings::core::leave_whole` meets its contract: its own arrays are stored where `leave` came somewhere.
 -- Assumes nothing.
 use borrow.Author.Needs.{needs}
-use Rattle.segment_postings.specs.Calls.{cursorOf}
 use Rattle.segment_postings.specs.Cursor.{inBounds, position}
 use Rattle.segment_postings.proofs.Laws.LandingParts.{stored-reached, left-reached}
 use Rattle.segment_postings.proofs.core.leave_whole.Statement.{statement}
 use Rattle.segment_postings.proofs.core.leave_whole.Tie as tie
 
 leave-requires : tie.Need-leave-requires
-unfolding inBounds position cursorOf
+unfolding inBounds position
 leave-requires c κs = let s = c .before .before .before in (λ ds fs. s .pre .0, s .pre .1)
 
 enum-told : tie.Need-enum-told

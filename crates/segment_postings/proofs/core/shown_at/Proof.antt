@@ -12,7 +12,7 @@ at-end-requires : tie.Need-at-end-requires
 at-end-requires c κs = search needs
 
 returns : tie.Need-returns
-unfolding answerAt cursorOf choose
+unfolding answerAt choose
 returns c = rw (sym (c .before .at-end .ensures) ∙ c .if1 .taken)
 
 mul-t7 : tie.Need-mul-t7
@@ -28,7 +28,7 @@ element-copy-out-t14 : tie.Need-element-copy-out-t14
 element-copy-out-t14 c = search needs
 
 returns-2 : tie.Need-returns-2
-unfolding answerAt cursorOf choose
+unfolding answerAt choose
 returns-2 c = rw (sym (c .before .before .before .at-end .ensures) ∙ c .before .before .if1 .left)
 
 pub shown-at-spec : {M : Type 1} → statement M

@@ -1,7 +1,6 @@
 -- `segment_postings::core::start_behind` meets its contract.
 -- Assumes nothing.
 use borrow.Author.Needs.{needs}
-use Rattle.segment_postings.specs.Calls.{cursorOf}
 use Rattle.segment_postings.proofs.core.start_behind.Statement.{statement}
 use Rattle.segment_postings.proofs.core.start_behind.Tie as tie
 
@@ -12,8 +11,7 @@ least-after-requires : tie.Need-least-after-requires
 least-after-requires c κs = search needs
 
 returns : tie.Need-returns
-unfolding cursorOf
-returns c docs freqs = rw (c .least-after .ensures)
+returns c = rw (c .least-after .ensures)
 
 pub start-behind-spec : {M : Type 1} → statement M
 start-behind-spec = tie.close (tie.spec add-t2 least-after-requires returns)

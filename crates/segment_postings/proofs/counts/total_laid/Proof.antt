@@ -115,13 +115,13 @@ start-behind-requires c κs = omega (arith, held (landed (front c)) .next (some 
 loop-less : tie.Need-loop-less Inv-loop μ-loop
 loop-less c =
     let b = front (c .before) in
-    omega (arith, some (c .before), turn _ _ _ (head b .loop .inv .walks) (held (landed b)) (some (c .before)) (c .start-behind .ensures _ _) .block-is)
+    omega (arith, some (c .before), turn _ _ _ (head b .loop .inv .walks) (held (landed b)) (some (c .before)) (c .start-behind .ensures) .block-is)
 
 loop-again : tie.Need-loop-again Inv-loop μ-loop
 loop-again c =
     let b = front (c .before) in
     walk-goes-on (head b .loop .inv) (held (landed b)) _ (b .block-below .ensures) (not-false _ (c .before .before .before .if1 .left)) (some (c .before))
-    (c .start-behind .ensures _ _)
+    (c .start-behind .ensures)
 
 enum-known-n : tie.Need-enum-known-n Inv-loop μ-loop
 enum-known-n c = search needs

@@ -5,7 +5,7 @@ use mathlib.Core.Path.{sym, ap}
 use Prim.Native.Nat.{_/_, _^_, _≤_, _<_}
 use native.Mathlib.Omega.{arith}
 use borrow.Author.Needs.{needs}
-use Rattle.segment_postings.specs.Calls.{cursorOf, valued}
+use Rattle.segment_postings.specs.Calls.{valued}
 use Rattle.segment_postings.proofs.Laws.LandingParts.{reached-at, reached-nowhere}
 use Rattle.segment_postings.proofs.Laws.ReachedBounds.{seeking-near}
 use Rattle.segment_postings.proofs.seeks.SeekCases.{ranking-too-large, ranking-unopened, ranking-unsought, ranking-found}
@@ -32,7 +32,6 @@ few : (s : tie.Start) → s .args .count / 128 < 2 ^ 25
 few s = omega arith
 
 near : (c : tie.After-held) → (c .held .given .0 .0 .place < 128) × (c .held .given .0 .0 .block ≤ 2 ^ 25)
-unfolding cursorOf
 near c =
     let s = c .before .before .before .before .before .before .before .before .before .before .before .before .before in
     let near = seeking-near _ _ _ _ (reached-at (c .before .before .seek-in .ensures) (c .held .given .1)) in
@@ -51,7 +50,7 @@ enum-known-n-2 : tie.Need-enum-known-n-2
 enum-known-n-2 c = search needs
 
 returns-2 : tie.Need-returns-2
-unfolding valued cursorOf
+unfolding valued
 returns-2 c =
     let h = c .before .before .before in
     let k = h .before .before in

@@ -2,15 +2,11 @@
 -- Assumes nothing.
 use mathlib.Core.Path.{sym}
 use borrow.Author.Needs.{needs}
-use Rattle.segment_postings.specs.Calls.{cursorOf}
-use Rattle.segment_postings.proofs.Laws.LandingParts.{same-cursor, reached-at}
+use Rattle.segment_postings.proofs.Laws.LandingParts.{reached-at}
 use Rattle.segment_postings.proofs.Laws.ReachedBounds.{seeking-near}
-use Rattle.segment_postings.proofs.Laws.CallsByValue.{seek-apart, put-together, put-back}
+use Rattle.segment_postings.proofs.Laws.CallsByValue.{seek-in-calls, put-together}
 use Rattle.segment_postings.proofs.seeks.seek.Statement.{statement}
 use Rattle.segment_postings.proofs.seeks.seek.Tie as tie
-
-held-of-requires : tie.Need-held-of-requires
-held-of-requires c κs = search needs
 
 seek-in-requires : tie.Need-seek-in-requires
 seek-in-requires c κs = search needs
@@ -19,43 +15,27 @@ enum-known-held : tie.Need-enum-known-held
 enum-known-held c = search needs
 
 shown-at-requires : tie.Need-shown-at-requires
-unfolding cursorOf
 shown-at-requires c κs = let h = c .before .before .before in seeking-near _ _ _ _ (reached-at (h .before .before .seek-in .ensures) (h .held .given .1)) .0
-
-cursor-of-requires : tie.Need-cursor-of-requires
-cursor-of-requires c κs = search needs
 
 enum-known-n : tie.Need-enum-known-n
 enum-known-n c = search needs
 
-cursor-of-requires-2 : tie.Need-cursor-of-requires-2
-cursor-of-requires-2 c κs = search needs
-
 returns : tie.Need-returns
 returns c =
-    let h = c .before .before .before .before .before in
-    let w = h .before .before in
-    let k = w .before .before .before in
-    put-together (seek-apart _ _ (k .before .before .before .before .args .cursor) (k .held-of .ensures) _ (w .seek-in .ensures)) (h .held .given .1)
-    (seeking-near _ _ _ _ (reached-at (w .seek-in .ensures) (h .held .given .1)) .0) (c .before .shown-at .ensures) (c .cursor-of .ensures)
+    let h = c .before .before .before .before in
+    let k = h .before .before .seek-in .ensures in
+    put-together (seek-in-calls _ _ _ _ k) (h .held .given .1) (seeking-near _ _ _ _ (reached-at k (h .held .given .1)) .0) (c .shown-at .ensures)
 
 returns-2 : tie.Need-returns-2
-returns-2 c =
-    let w = c .before .before .before .before in
-    let k = w .before .before .before in
-    put-back (seek-apart _ _ (k .before .before .before .before .args .cursor) (k .held-of .ensures) _ (w .seek-in .ensures)) _
-    (c .before .before .n .given .1) (sym (same-cursor _ (k .held-of .ensures))) (c .cursor-of2 .ensures)
+returns-2 c = sym (seek-in-calls _ _ _ _ (c .before .before .before .seek-in .ensures) .stayed (c .before .n .given .1) .0)
 
 pub seek-spec : {M : Type 1} → statement M
 seek-spec =
     tie.close
     (tie.spec
-    held-of-requires
     seek-in-requires
     enum-known-held
     shown-at-requires
-    cursor-of-requires
     enum-known-n
-    cursor-of-requires-2
     returns
     returns-2)

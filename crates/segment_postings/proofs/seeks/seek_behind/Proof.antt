@@ -4,7 +4,6 @@
 use Prim.Native.Nat.{_/_, _<_}
 use native.Mathlib.Omega.{arith}
 use borrow.Author.Needs.{needs}
-use Rattle.segment_postings.specs.Calls.{cursorOf}
 use Rattle.segment_postings.proofs.Laws.LandingParts.{none-reached, reaches-as}
 use Rattle.segment_postings.proofs.seeks.SeekCases.{then-nowhere, then-placed, behind-tail, behind-full}
 use Rattle.segment_postings.proofs.seeks.seek_behind.Statement.{statement}
@@ -14,7 +13,6 @@ full-blocks-requires : tie.Need-full-blocks-requires
 full-blocks-requires c κs = search needs
 
 returns : tie.Need-returns
-unfolding cursorOf
 returns c = none-reached _ _ (behind-tail _ _ _ _ (omega arith))
 
 full : (c : tie.Else1) → let s = c .before .before .before .before in s .args .held .block < s .args .term .count / 128
@@ -36,15 +34,13 @@ enum-known-n : tie.Need-enum-known-n
 enum-known-n c = search needs
 
 returns-2 : tie.Need-returns-2
-unfolding cursorOf
 returns-2 c =
     let h = c .before .before .before .before in
     let k = h .before .before in
     reaches-as (behind-full _ _ _ _ (full (k .before .before .before)))
-    (then-placed (k .leave-whole .ensures) _ (h .landed .given .1) (c .before .search-block .ensures .0) (c .at-place .ensures _ _))
+    (then-placed (k .leave-whole .ensures) _ (h .landed .given .1) (c .before .search-block .ensures .0) (c .at-place .ensures))
 
 returns-3 : tie.Need-returns-3
-unfolding cursorOf
 returns-3 c =
     let k = c .before .before .before in
     reaches-as (behind-full _ _ _ _ (full (k .before .before .before)))

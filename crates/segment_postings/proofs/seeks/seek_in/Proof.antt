@@ -27,11 +27,9 @@ in-bounds : (c : tie.Else1) → let s = c .before .before .before in
 in-bounds c = sym (c .before .in-bounds .ensures _ _ _ refl) ∙ not-false _ (c .if1 .left)
 
 at-end-requires : tie.Need-at-end-requires
-unfolding cursorOf
 at-end-requires c κs = bounded _ _ _ (in-bounds c) .place-below
 
 returns-2 : tie.Need-returns-2
-unfolding cursorOf
 returns-2 c =
     held-reached _ _ _ (seeking-ended _ _ _ _ (in-bounds (c .before .before)) (sym (c .before .at-end .ensures) ∙ c .if2 .taken))
 
@@ -40,32 +38,26 @@ before-end : (c : tie.Else2) → let s = c .before .before .before .before .befo
 before-end c = sym (c .before .at-end .ensures) ∙ c .if2 .left
 
 returns-3 : tie.Need-returns-3
-unfolding cursorOf
 returns-3 c =
     let e = c .before in
     none-reached _ _ (seeking-too-large _ _ _ _ (in-bounds (e .before .before)) (before-end e) (c .if3 .taken))
 
 mul-if4 : tie.Need-mul-if4
-unfolding cursorOf
 mul-if4 c = omega (arith, bounded _ _ _ (in-bounds (c .before .before .before)) .place-below)
 
 element-copy-out-if4 : tie.Need-element-copy-out-if4
-unfolding cursorOf
 element-copy-out-if4 c = bounded _ _ _ (in-bounds (c .before .before .before)) .place-below
 
 returns-4 : tie.Need-returns-4
-unfolding cursorOf
 returns-4 c =
     let f = c .before .before in
     let e = f .before in
     held-reached _ _ _ (seeking-stays _ _ _ _ (in-bounds (e .before .before)) (before-end e) (f .if3 .left) (c .if4 .taken))
 
 seek-within-requires : tie.Need-seek-within-requires
-unfolding cursorOf
 seek-within-requires c κs = bounded _ _ _ (in-bounds (c .before .before .before .before .before .before .before .before)) .block-most
 
 returns-5 : tie.Need-returns-5
-unfolding cursorOf
 returns-5 c =
     let h = c .before .before in
     let g = h .before .before in
@@ -79,7 +71,6 @@ seek-behind-requires : tie.Need-seek-behind-requires
 seek-behind-requires c κs = in-bounds (c .before .before .before .before .before .before .before .before .before)
 
 returns-6 : tie.Need-returns-6
-unfolding cursorOf
 returns-6 c =
     let h = c .before .before .before in
     let g = h .before .before in

@@ -1,22 +1,16 @@
 -- `segment_postings::segment_postings::doc` meets its contract: the cursor's numbers are those that are passed.
 -- Assumes nothing.
 use Rattle.segment_postings.specs.Cursor.{docAt}
-use Rattle.segment_postings.specs.Calls.{cursorOf, heldOf}
 use borrow.Author.Needs.{needs}
 use Rattle.segment_postings.proofs.segment_postings.doc.Statement.{statement}
 use Rattle.segment_postings.proofs.segment_postings.doc.Tie as tie
-
-held-of-requires : tie.Need-held-of-requires
-held-of-requires c κs = search needs
 
 value-at-requires : tie.Need-value-at-requires
 value-at-requires c κs = search needs
 
 returns : tie.Need-returns
-unfolding docAt cursorOf heldOf
-returns c =
-    let s = c .before .before .before .before .before in
-    rw (c .before .held-of .ensures) at (c .value-at .ensures (s .args .cursor .docs) (s .args .cursor .freqs))
+unfolding docAt
+returns c = let s = c .before .before .before .before in c .value-at .ensures (s .args .cursor .docs) (s .args .cursor .freqs)
 
 pub doc-spec : {M : Type 1} → statement M
-doc-spec = tie.close (tie.spec held-of-requires value-at-requires returns)
+doc-spec = tie.close (tie.spec value-at-requires returns)

@@ -1,7 +1,6 @@
 -- `segment_postings::segment_postings::open` meets its contract: where the core came to, put together, is where the definition comes to.
 -- Assumes nothing.
 use mathlib.Core.Path.{sym}
-use Rattle.segment_postings.specs.Calls.{cursorOf}
 use Rattle.segment_postings.proofs.Laws.LandingParts.{reached-at, opening-near}
 use Rattle.segment_postings.proofs.Laws.CallsByValue.{open-in-calls, put-together}
 use borrow.Author.Needs.{needs}
@@ -18,21 +17,16 @@ enum-known-held : tie.Need-enum-known-held
 enum-known-held c = search needs
 
 shown-at-requires : tie.Need-shown-at-requires
-unfolding cursorOf
 shown-at-requires c κs = let h = c .before .before .before in opening-near _ _ (reached-at (h .before .before .open-in .ensures) (h .held .given .1))
-
-cursor-of-requires : tie.Need-cursor-of-requires
-cursor-of-requires c κs = search needs
 
 enum-known-n : tie.Need-enum-known-n
 enum-known-n c = search needs
 
 returns : tie.Need-returns
 returns c =
-    let h = c .before .before .before .before .before in
+    let h = c .before .before .before .before in
     let o = h .before .before .open-in .ensures in
-    put-together (open-in-calls _ _ o) (h .held .given .1) (opening-near _ _ (reached-at o (h .held .given .1))) (c .before .shown-at .ensures)
-    (c .cursor-of .ensures)
+    put-together (open-in-calls _ _ o) (h .held .given .1) (opening-near _ _ (reached-at o (h .held .given .1))) (c .shown-at .ensures)
 
 returns-2 : tie.Need-returns-2
 returns-2 c =
@@ -48,7 +42,6 @@ open-spec =
     open-in-requires
     enum-known-held
     shown-at-requires
-    cursor-of-requires
     enum-known-n
     returns
     returns-2)

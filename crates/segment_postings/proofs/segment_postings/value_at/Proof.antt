@@ -30,7 +30,6 @@ in-bounds : (c : tie.Else1) (docs freqs : List ℕ) → let s = c .before .befor
 in-bounds c docs freqs = sym (c .before .in-bounds .ensures _ docs freqs refl) ∙ not-false _ (c .if1 .left)
 
 place-below : (c : tie.Else1) → c .before .before .before .args .held .place < 128
-unfolding cursorOf
 place-below c = bounded _ _ _ (in-bounds c [] []) .place-below
 
 at-end-requires : tie.Need-at-end-requires
@@ -40,7 +39,7 @@ value-requires : tie.Need-value-requires
 value-requires c κs = search needs
 
 returns-2 : tie.Need-returns-2
-unfolding valued valueAt ask choose cursorOf position
+unfolding valued valueAt ask choose position
 returns-2 c docs freqs =
     let e = c .before in
     rw (in-bounds (e .before .before) docs freqs, sym (e .before .at-end .ensures) ∙ e .if2 .taken) (c .value .ensures)
@@ -55,7 +54,7 @@ value-requires-2 : tie.Need-value-requires-2
 value-requires-2 c κs = search needs
 
 returns-3 : tie.Need-returns-3
-unfolding valued valueAt ask choose cursorOf position
+unfolding valued valueAt ask choose position
 returns-3 c docs freqs =
     let e = c .before .before in
     rw (in-bounds (e .before .before) docs freqs, sym (e .before .at-end .ensures) ∙ e .if2 .left) (c .value2 .ensures)

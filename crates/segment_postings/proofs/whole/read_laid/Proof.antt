@@ -120,13 +120,13 @@ start-behind-requires c κs = omega (arith, held (landed (copied c)) .next (some
 loop-less : tie.Need-loop-less Inv-loop μ-loop
 loop-less c =
     let k = copied (c .before) in
-    omega (arith, some (c .before), turn _ _ _ (head k .loop .inv .walks) (held (landed k)) (some (c .before)) (c .start-behind .ensures _ _) .block-is)
+    omega (arith, some (c .before), turn _ _ _ (head k .loop .inv .walks) (held (landed k)) (some (c .before)) (c .start-behind .ensures) .block-is)
 
 loop-again : tie.Need-loop-again Inv-loop μ-loop
 loop-again c =
     let k = copied (c .before) in
     copy-goes-on (head k .loop .inv) (held (landed k)) (first k .put-block .ensures) (second k .put-block2 .ensures) (some (c .before))
-    (c .start-behind .ensures _ _)
+    (c .start-behind .ensures)
 
 enum-told : tie.Need-enum-told Inv-loop μ-loop
 enum-told c = search needs
