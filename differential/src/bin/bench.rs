@@ -1,5 +1,6 @@
 //! Times for writing 4,000,000 documents, for reading them all and for 100,000 rising seeks over
-//! them, frequencies included: the Rust's and, where it is linked, the library's.
+//! them, frequencies included: the Rust's and, where it is linked, the library's. Of two lists: one
+//! whose blocks have nearly all the same widths, and one whose blocks have each its own.
 
 use std::time::Instant;
 
@@ -20,13 +21,19 @@ const RUNS: usize = 15;
 
 fn main() {
     let mut rng = Rng::new(SEED);
-    let list = list(&mut rng);
+    let even = even(&mut rng);
+    measure("one range of gaps and one of frequencies", &even, &mut rng);
+    let mixed = mixed(&mut rng);
+    measure("ranges drawn anew for each block", &mixed, &mut rng);
+}
+
+fn measure(what: &str, list: &List, rng: &mut Rng) {
     let last = list.ids[DOCUMENTS - 1];
-    println!("seed {SEED}: {DOCUMENTS} documents, last id {last}");
-    let image = Image { mode: 1, count: DOCUMENTS as u32, bytes: write(&list) };
+    println!("{what}: seed {SEED}, {DOCUMENTS} documents, last id {last}");
+    let image = Image { mode: 1, count: DOCUMENTS as u32, bytes: write(list) };
     // Opening is timed, the Rust's own copy of the image is not.
     let opener = Opener::new(&image);
-    read(&list, &image, &opener);
+    read(list, &image, &opener);
     // One target in each of as many equal stretches.
     let stretch = last / SEEKS as u32;
     let target = |i: usize| i as u32 * stretch + rng.below(stretch.into()) as u32;
@@ -37,13 +44,28 @@ fn main() {
 }
 
 /// Gaps of 1 to 19 and frequencies of 1 to 10, recorded.
-fn list(rng: &mut Rng) -> List {
+fn even(rng: &mut Rng) -> List {
     let mut id = 0;
     let mut document = || {
         id += 1 + rng.below(19) as u32;
         (id, 1 + rng.below(10) as u32)
     };
     let (ids, freqs) = (0..DOCUMENTS).map(|_| document()).unzip();
+    List { mode: 1, record: true, ids, freqs }
+}
+
+/// Each block of 128 has its own ranges: gaps and frequencies of 1 to a power of two, from 1 to 512.
+fn mixed(rng: &mut Rng) -> List {
+    let mut id = 0;
+    let [mut gaps, mut counts] = [1; 2];
+    let mut document = |i: usize| {
+        if i % 128 == 0 {
+            [gaps, counts] = [(); 2].map(|_| 1 << rng.below(10));
+        }
+        id += 1 + rng.below(gaps) as u32;
+        (id, 1 + rng.below(counts) as u32)
+    };
+    let (ids, freqs) = (0..DOCUMENTS).map(&mut document).unzip();
     List { mode: 1, record: true, ids, freqs }
 }
 
