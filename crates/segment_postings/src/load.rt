@@ -138,35 +138,33 @@ pub(crate) fn take_values(
     requires { ⌜ FoundThere term (now image) found × (unpacked + 1 < 2 ^ 64) ⌝ }
     ensures { λ r. ⌜ ValuesTaken term layout (now (image .entry)) found unpacked (now (docs .exit)) (now (freqs .exit)) r ⌝ }
 {
-    let at = found.at;
-    let option = layout.option;
     let blocks = full_blocks(term.count);
     let counted = unpacked + 1;
     if found.block < blocks {
         let info = found.info;
         let more = reduction(info.strict);
-        unpack(&image[at..], info.doc_width, more, docs);
+        unpack(&image[found.at..], info.doc_width, more, docs);
         if !info.strict {
             first_as_difference(docs, found.least);
         }
-        let kept = has_freq(option);
+        let kept = has_freq(layout.option);
         if !kept || term.requested == 0 {
             *freqs = [1; 128];
             return full_taken(info, true, kept, counted);
         }
-        let behind = at + compressed_block_size(info.doc_width);
+        let behind = found.at + compressed_block_size(info.doc_width);
         unpack(&image[behind..], info.freq_width, more, freqs);
         return full_taken(info, info.strict && info.freq_width < 32, kept, counted);
     }
     let n = term.count as usize % COMPRESSION_BLOCK_SIZE;
     let mut ids = [TERMINATED; 128];
     *freqs = [1; 128];
-    let Next::At(behind) = uncompress_unsorted(image, at, &mut ids[..n]) else {
+    let Next::At(behind) = uncompress_unsorted(image, found.at, &mut ids[..n]) else {
         return tail_taken(n, false, true, true, true, false, counted);
     };
     first_as_difference(&mut ids[..n], found.least);
     *docs = ids;
-    let kept = keeps_freqs(option, blocks == 0, n, image, behind);
+    let kept = keeps_freqs(layout.option, blocks == 0, n, image, behind);
     if !kept || n == 0 {
         return tail_taken(n, true, true, true, none_left(image, behind), kept, counted);
     }
