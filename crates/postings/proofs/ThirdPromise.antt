@@ -71,8 +71,8 @@ on-arrays-call : (bs : List ℕ) (t : Term) (call : Call) (held : Held) {docs fr
     → Reaches (reaching (cursorOf held docs freqs) bs t call) docs freqs docs′ freqs′ r
     → SameCall t (cursorOf held docs freqs) (called (cursorOf held docs freqs) bs t call) docs freqs docs′ freqs′ r
 unfolding reaching called
-on-arrays-call bs t step held k = advance-in-calls bs t held k
-on-arrays-call bs t (seek target) held k = seek-in-calls bs t held target k
+on-arrays-call bs t step held k = advance-in-calls bs t _ k
+on-arrays-call bs t (seek target) held k = seek-in-calls bs t _ target k
 
 met : {bs : List ℕ} {t : Term} {call : Call} {manner : Manner} {c : SegmentPostings} {a : Answer} {c′ : SegmentPostings}
     → Meets bs t call manner c a c′ → Gives (called c bs t call) a c′

@@ -1,7 +1,7 @@
 -- What the private functions below the calls want and leave.
 -- Assumes nothing.
 use mathlib.Core.Path.{_≡_}
-use mathlib.Core.Bool.{Bool}
+use mathlib.Core.Bool.{Bool, true, false}
 use mathlib.Core.List.{List}
 use Prim.Native.Nat.{ℕ, _+_, _≤_}
 use lib.ListN.{length, drop}
@@ -11,6 +11,11 @@ use Rattle.format.specs.Basics.{Outcome, ok, refused, andThen, TERMINATED}
 use Rattle.format.specs.SkipEntry.{blockSize}
 use Rattle.format.specs.Layout.{layout, fullBlocks}
 use Rattle.format.specs.Reading.{Block, keptBy}
+use Rattle.segment_postings.specs.declared.Answer.the-variants.{Refused}
+use Rattle.segment_postings.specs.declared.Held.{Held}
+use Rattle.segment_postings.specs.declared.Moved.{Moved}
+use Rattle.segment_postings.specs.declared.Reached.{Reached}
+use Rattle.segment_postings.specs.declared.Reached.the-variants as reached-as
 use Rattle.segment_postings.specs.declared.SegmentPostings.{SegmentPostings}
 use Rattle.segment_postings.specs.declared.find.Found.{Found}
 use Rattle.segment_postings.specs.declared.find.Start.{Start}
@@ -20,9 +25,10 @@ use Rattle.segment_postings.specs.declared.layout.Laid.{Laid}
 use Rattle.segment_postings.specs.declared.layout.Laid.the-variants as laid-as
 use Rattle.segment_postings.specs.declared.load.Loaded.{Loaded}
 use Rattle.segment_postings.specs.declared.load.Loaded.the-variants as loaded-as
-use Rattle.segment_postings.specs.declared.Reached.{Reached}
-use Rattle.segment_postings.specs.Calls.{reached}
+use Rattle.segment_postings.specs.declared.seeks.Went.{Went}
 use Rattle.segment_postings.specs.Landing.{loadBlock, padded, holding}
+use Rattle.segment_postings.specs.Cursor.{answerAt, advanced, sought}
+use Rattle.segment_postings.specs.Calls.{cursorOf, reached}
 
 -- ---- the layout
 
@@ -74,3 +80,17 @@ pub record Lands (o : Outcome SegmentPostings) (docs freqs : List ℕ) (r : Reac
   pub answer : r ≡ reached o
   pub docs-are : (c : SegmentPostings) → o ≡ ok c → docs ≡ c .docs
   pub freqs-are : (c : SegmentPostings) → o ≡ ok c → freqs ≡ c .freqs
+
+-- ---- what the calls by value do on their cursor's arrays
+
+-- where a call on two arrays came to, with its answer; a refusal leaves the numbers as they were
+unfoldable pub answered : Term → (was : Held) → (docs freqs : List ℕ) → Reached → Went
+unfolding answerAt
+answered t was docs freqs (reached-as.At held) = record { answer = answerAt t (cursorOf held docs freqs); held = held }
+answered t was docs freqs (reached-as.Refused n) = record { answer = Refused n; held = was }
+
+-- a step, or a seek to the target
+unfoldable pub going : (step : Bool) → SegmentPostings → List ℕ → Term → (target : ℕ) → Moved
+unfolding advanced sought
+going true c bs t target = advanced c bs t
+going false c bs t target = sought c bs t target

@@ -1,4 +1,4 @@
-// Seeks, on two lent arrays and by value, and the rank, which a fresh cursor's seek finds.
+// Seeks, on two lent arrays and by value; what a seek and a step by value share; and the rank, which a fresh cursor's seek finds.
 
 use crate::Answer;
 use crate::Held;
@@ -6,6 +6,7 @@ use crate::Moved;
 use crate::Reached;
 use crate::SegmentPostings;
 use crate::Value;
+use crate::core::advance_in;
 use crate::core::at_end;
 use crate::core::in_bounds;
 use crate::core::leave_whole;
@@ -23,7 +24,8 @@ ghost use mathlib.Core.Path.{_≡_};
 ghost use mathlib.Core.List.{List};
 ghost use Prim.Native.Nat.{ℕ, _/_, _≤_, _<_};
 ghost use Rattle.segment_postings.specs.Cursor.{inBounds, heldAt, within, behind, seeking, sought, ranking};
-ghost use Rattle.segment_postings.specs.Calls.{cursorOf, Reaches, valued};
+ghost use Rattle.segment_postings.specs.Calls.{cursorOf, Leaves, Reaches, valued};
+ghost use Rattle.segment_postings.specs.Private.{answered, going};
 
 // The numbers of a cursor at another place of its held block.
 fn at_place(held: Held, place: usize) -> Held
@@ -113,24 +115,76 @@ pub fn seek_in(
     seek_behind(held, image, term, target, docs, freqs)
 }
 
+// An answer with the cursor's numbers behind it.
+pub(crate) struct Went {
+    pub answer: Answer,
+    pub held: Held,
+}
+
+// Where a call on lent arrays came to, with its answer; a refusal leaves the numbers as they were.
+pub(crate) fn answered(
+    reached: Reached,
+    was: Held,
+    term: Term,
+    docs: &[u32; 128],
+    freqs: &[u32; 128],
+) -> Went
+    requires { ⌜ ((held : Held) → reached ≡ Reached.At held → held .place < 128) ⌝ }
+    ensures { λ r. ⌜ r ≡ answered term was (now (docs .entry)) (now (freqs .entry)) reached ⌝ }
+{
+    match reached {
+        Reached::At(held) => {
+            let answer = shown_at(held, term, docs, freqs);
+            Went { answer, held }
+        }
+        Reached::Refused(n) => Went {
+            answer: Answer::Refused(n),
+            held: was,
+        },
+    }
+}
+
+// A step or a seek on a cursor's arrays, with its answer: what both calls by value do. It has two callers, so that the compiler keeps it
+// apart and inlines them: they were measured faster so.
+pub(crate) fn go(
+    held: Held,
+    image: &[u8],
+    term: Term,
+    step: bool,
+    target: u32,
+    docs: &mut [u32; 128],
+    freqs: &mut [u32; 128],
+) -> Went
+    ensures { λ r. ⌜ Leaves (going step (cursorOf held (now (docs .entry)) (now (freqs .entry))) (now (image .entry)) term target) (r .answer) (cursorOf (r .held) (now (docs .exit)) (now (freqs .exit))) ⌝ }
+{
+    let reached = if step {
+        advance_in(held, image, term, docs, freqs)
+    } else {
+        seek_in(held, image, term, target, docs, freqs)
+    };
+    answered(reached, held, term, docs, freqs)
+}
+
 // Seeks to the first document, not before the present one, that is at least the target; if there is none, to the end.
 pub fn seek(cursor: SegmentPostings, image: &[u8], term: Term, target: u32) -> Moved
     ensures { λ r. ⌜ r ≡ sought cursor (now (image .entry)) term target ⌝ }
 {
     let mut docs = cursor.docs;
     let mut freqs = cursor.freqs;
-    match seek_in(cursor.held, image, term, target, &mut docs, &mut freqs) {
-        Reached::At(held) => {
-            let answer = shown_at(held, term, &docs, &freqs);
-            Moved {
-                answer,
-                cursor: SegmentPostings { docs, held, freqs },
-            }
-        }
-        Reached::Refused(n) => Moved {
-            answer: Answer::Refused(n),
-            cursor,
-        },
+    let went = go(
+        cursor.held,
+        image,
+        term,
+        false,
+        target,
+        &mut docs,
+        &mut freqs,
+    );
+    let answer = went.answer;
+    let held = went.held;
+    Moved {
+        answer,
+        cursor: SegmentPostings { docs, held, freqs },
     }
 }
 

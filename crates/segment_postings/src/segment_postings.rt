@@ -1,16 +1,14 @@
 // The cursor over a list's documents, by value: opening, the step, and the document and the frequency at its position.
 
-use crate::Answer;
 use crate::Held;
 use crate::Moved;
-use crate::Reached;
 use crate::SegmentPostings;
 use crate::Value;
-use crate::core::advance_in;
 use crate::core::at_end;
 use crate::core::in_bounds;
 use crate::core::open_in;
-use crate::core::shown_at;
+use crate::seeks::answered;
+use crate::seeks::go;
 use format::COMPRESSION_BLOCK_SIZE;
 use format::STATE_BROKEN;
 use format::TERMINATED;
@@ -46,18 +44,13 @@ pub fn open(image: &[u8], term: Term) -> Moved
     let blank = blank();
     let mut docs = blank.docs;
     let mut freqs = blank.freqs;
-    match open_in(image, term, &mut docs, &mut freqs) {
-        Reached::At(held) => {
-            let answer = shown_at(held, term, &docs, &freqs);
-            Moved {
-                answer,
-                cursor: SegmentPostings { docs, held, freqs },
-            }
-        }
-        Reached::Refused(n) => Moved {
-            answer: Answer::Refused(n),
-            cursor: blank,
-        },
+    let reached = open_in(image, term, &mut docs, &mut freqs);
+    let went = answered(reached, blank.held, term, &docs, &freqs);
+    let answer = went.answer;
+    let held = went.held;
+    Moved {
+        answer,
+        cursor: SegmentPostings { docs, held, freqs },
     }
 }
 
@@ -67,18 +60,12 @@ pub fn advance(cursor: SegmentPostings, image: &[u8], term: Term) -> Moved
 {
     let mut docs = cursor.docs;
     let mut freqs = cursor.freqs;
-    match advance_in(cursor.held, image, term, &mut docs, &mut freqs) {
-        Reached::At(held) => {
-            let answer = shown_at(held, term, &docs, &freqs);
-            Moved {
-                answer,
-                cursor: SegmentPostings { docs, held, freqs },
-            }
-        }
-        Reached::Refused(n) => Moved {
-            answer: Answer::Refused(n),
-            cursor,
-        },
+    let went = go(cursor.held, image, term, true, 0, &mut docs, &mut freqs);
+    let answer = went.answer;
+    let held = went.held;
+    Moved {
+        answer,
+        cursor: SegmentPostings { docs, held, freqs },
     }
 }
 

@@ -1,41 +1,16 @@
--- `segment_postings::segment_postings::advance` meets its contract: where the core came to, put together, is where the definition comes to.
+-- `segment_postings::segment_postings::advance` meets its contract: the answer, the numbers and the arrays that `go` leaves, put together.
 -- Assumes nothing.
-use mathlib.Core.Path.{sym}
 use borrow.Author.Needs.{needs}
-use Rattle.segment_postings.proofs.Laws.LandingParts.{reached-at}
-use Rattle.segment_postings.proofs.Laws.ReachedBounds.{stepping-near}
-use Rattle.segment_postings.proofs.Laws.CallsByValue.{advance-in-calls, put-together}
+use Rattle.segment_postings.specs.Private.{going}
 use Rattle.segment_postings.proofs.segment_postings.advance.Statement.{statement}
 use Rattle.segment_postings.proofs.segment_postings.advance.Tie as tie
 
-advance-in-requires : tie.Need-advance-in-requires
-advance-in-requires c κs = search needs
-
-enum-known-held : tie.Need-enum-known-held
-enum-known-held c = search needs
-
-shown-at-requires : tie.Need-shown-at-requires
-shown-at-requires c κs = let h = c .before .before .before in stepping-near _ _ _ (reached-at (h .before .before .advance-in .ensures) (h .held .given .1)) .0
-
-enum-known-n : tie.Need-enum-known-n
-enum-known-n c = search needs
+go-requires : tie.Need-go-requires
+go-requires c κs = search needs
 
 returns : tie.Need-returns
-returns c =
-    let h = c .before .before .before .before in
-    let k = h .before .before .advance-in .ensures in
-    put-together (advance-in-calls _ _ _ k) (h .held .given .1) (stepping-near _ _ _ (reached-at k (h .held .given .1)) .0) (c .shown-at .ensures)
-
-returns-2 : tie.Need-returns-2
-returns-2 c = sym (advance-in-calls _ _ _ (c .before .before .before .advance-in .ensures) .stayed (c .before .n .given .1) .0)
+unfolding going
+returns c = let k = c .before .go .ensures in rw (k .0, k .1)
 
 pub advance-spec : {M : Type 1} → statement M
-advance-spec =
-    tie.close
-    (tie.spec
-    advance-in-requires
-    enum-known-held
-    shown-at-requires
-    enum-known-n
-    returns
-    returns-2)
+advance-spec = tie.close (tie.spec go-requires returns)

@@ -1,9 +1,9 @@
--- `segment_postings::segment_postings::open` meets its contract: where the core came to, put together, is where the definition comes to.
+-- `segment_postings::segment_postings::open` meets its contract: a blank cursor's arrays are opened on, and what is left there is put
+-- together with the answer.
 -- Assumes nothing.
-use mathlib.Core.Path.{sym}
-use Rattle.segment_postings.proofs.Laws.LandingParts.{reached-at, opening-near}
-use Rattle.segment_postings.proofs.Laws.CallsByValue.{open-in-calls, put-together}
 use borrow.Author.Needs.{needs}
+use Rattle.segment_postings.proofs.Laws.LandingParts.{opening-near}
+use Rattle.segment_postings.proofs.Laws.CallsByValue.{open-in-calls, answered-leaves, reached-near}
 use Rattle.segment_postings.proofs.segment_postings.open.Statement.{statement}
 use Rattle.segment_postings.proofs.segment_postings.open.Tie as tie
 
@@ -13,35 +13,16 @@ blank-requires c κs = search needs
 open-in-requires : tie.Need-open-in-requires
 open-in-requires c κs = search needs
 
-enum-known-held : tie.Need-enum-known-held
-enum-known-held c = search needs
-
-shown-at-requires : tie.Need-shown-at-requires
-shown-at-requires c κs = let h = c .before .before .before in opening-near _ _ (reached-at (h .before .before .open-in .ensures) (h .held .given .1))
-
-enum-known-n : tie.Need-enum-known-n
-enum-known-n c = search needs
+answered-requires : tie.Need-answered-requires
+answered-requires c κs = reached-near (λ _. opening-near _ _) (c .before .before .open-in .ensures)
 
 returns : tie.Need-returns
 returns c =
-    let h = c .before .before .before .before in
-    let o = h .before .before .open-in .ensures in
-    put-together (open-in-calls _ _ o) (h .held .given .1) (opening-near _ _ (reached-at o (h .held .given .1))) (c .shown-at .ensures)
-
-returns-2 : tie.Need-returns-2
-returns-2 c =
-    let o = c .before .before .before in
-    rw (o .before .before .before .before .before .blank .ensures)
-    (sym (open-in-calls _ _ (o .open-in .ensures) .stayed (c .before .n .given .1) .0))
+    let o = c .before .before .before .before in
+    let blank = o .before .before .before .before .before .blank .ensures in
+    let same = open-in-calls _ _ (rw blank at (o .open-in .ensures)) in
+    let k = answered-leaves same (reached-near (λ _. opening-near _ _) (o .open-in .ensures)) (rw blank at (c .before .answered .ensures)) in
+    rw (k .0, k .1)
 
 pub open-spec : {M : Type 1} → statement M
-open-spec =
-    tie.close
-    (tie.spec
-    blank-requires
-    open-in-requires
-    enum-known-held
-    shown-at-requires
-    enum-known-n
-    returns
-    returns-2)
+open-spec = tie.close (tie.spec blank-requires open-in-requires answered-requires returns)
