@@ -191,12 +191,15 @@ unfoldable pub sought : SegmentPostings → List ℕ → Term → ℕ → Moved
 unfolding moved seeking
 sought c bs t target = moved t c (seeking c bs t target)
 
--- rank: 10 first; then the position of a fresh cursor, requested 0, after the seek
+-- a fresh cursor that seeks once
+unfoldable pub seekingFresh : List ℕ → Term → ℕ → Outcome SegmentPostings
+unfolding andThen opening seeking
+seekingFresh bs t target = andThen (opening bs t) λ c. seeking c bs t target
+
+-- rank: 10 first; then the position of such a cursor, requested 0
 unfoldable pub ranking : ℕ → ℕ → List ℕ → ℕ → Outcome ℕ
-unfolding ask andThen opening seeking position
+unfolding ask andThen seekingFresh position
 ranking mode count bs target =
     let t : Term = record { mode = mode; requested = 0; count = count } in
     ask (leb target TERMINATED) targetTooLarge λ _.
-    andThen (opening bs t) λ c.
-    andThen (seeking c bs t target) λ d.
-    ok (position d)
+    andThen (seekingFresh bs t target) λ c. ok (position c)

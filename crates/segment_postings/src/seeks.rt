@@ -23,8 +23,8 @@ ghost use mathlib.Core.Bool.{true};
 ghost use mathlib.Core.Path.{_≡_};
 ghost use mathlib.Core.List.{List};
 ghost use Prim.Native.Nat.{ℕ, _/_, _≤_, _<_};
-ghost use Rattle.segment_postings.specs.Cursor.{inBounds, heldAt, within, behind, seeking, sought, ranking};
-ghost use Rattle.segment_postings.specs.Calls.{cursorOf, Leaves, Reaches, valued};
+ghost use Rattle.segment_postings.specs.Cursor.{inBounds, heldAt, within, behind, seeking, sought, seekingFresh, ranking};
+ghost use Rattle.segment_postings.specs.Calls.{cursorOf, Leaves, reached, Reaches, valued};
 ghost use Rattle.segment_postings.specs.Private.{answered, going};
 
 // The numbers of a cursor at another place of its held block.
@@ -188,6 +188,18 @@ pub fn seek(cursor: SegmentPostings, image: &[u8], term: Term, target: u32) -> M
     }
 }
 
+// Where a fresh cursor comes to that seeks once.
+pub(crate) fn seek_fresh(image: &[u8], term: Term, target: u32) -> Reached
+    ensures { λ r. ⌜ r ≡ reached (seekingFresh (now (image .entry)) term target) ⌝ }
+{
+    let mut docs = [TERMINATED; 128];
+    let mut freqs = [1; 128];
+    match open_in(image, term, &mut docs, &mut freqs) {
+        Reached::At(first) => seek_in(first, image, term, target, &mut docs, &mut freqs),
+        Reached::Refused(n) => Reached::Refused(n),
+    }
+}
+
 // How many documents lie below the target.
 pub fn rank(image: &[u8], mode: u8, count: u32, target: u32) -> Value
     ensures { λ r. ⌜ r ≡ valued (ranking mode count (now (image .entry)) target) ⌝ }
@@ -200,15 +212,8 @@ pub fn rank(image: &[u8], mode: u8, count: u32, target: u32) -> Value
         requested: 0,
         count,
     };
-    let mut docs = [TERMINATED; 128];
-    let mut freqs = [1; 128];
-    match open_in(image, term, &mut docs, &mut freqs) {
-        Reached::At(first) => match seek_in(first, image, term, target, &mut docs, &mut freqs) {
-            Reached::At(held) => Value::Is(
-                (COMPRESSION_BLOCK_SIZE * held.block + held.place) as u64,
-            ),
-            Reached::Refused(n) => Value::Refused(n),
-        },
+    match seek_fresh(image, term, target) {
+        Reached::At(held) => Value::Is((COMPRESSION_BLOCK_SIZE * held.block + held.place) as u64),
         Reached::Refused(n) => Value::Refused(n),
     }
 }

@@ -25,10 +25,10 @@ use Rattle.format.proofs.Sound.{whole-count}
 use Rattle.format.proofs.SoundBlock.{SoundBlock, entryBlock-read, tailBlock-sound}
 use Rattle.format.proofs.Values.{countable-cons}
 use Rattle.segment_postings.specs.Cursor.{position, ranking}
-use Rattle.segment_postings.proofs.Laws.ReachedBounds.{seeking-near}
+use Rattle.segment_postings.proofs.Laws.ReachedBounds.{fresh-near}
 use Rattle.segment_postings.proofs.seeks.SeekCases.{ranking-is}
 use Rattle.segment_postings.proofs.counts.TotalInBlocks.{sum-append, totalIn-is, total-too-far, total-within}
-use Rattle.segment_postings.proofs.Laws.CursorTurns.{opening-is}
+use Rattle.segment_postings.proofs.Laws.CursorTurns.{opening-is, seekingFresh-is}
 
 pub count-most : (t : Term) (bs : List ℕ) {l : Layout} → layout t bs ≡ ok l → t .count ≤ TERMINATED
 count-most t bs e =
@@ -101,7 +101,7 @@ module _ (mode count : ℕ) (bs : List ℕ) (target : ℕ) where
   rank-most e =
       let t : Term = record { mode = mode; requested = 0; count = count } in
       let asked = ask-ok _ _ _ (sym (ranking-is mode count bs target) ∙ e) in
-      let opens = andThen-ok _ _ (asked .1) in
-      let seeks = andThen-ok _ _ (opens .2) in
+      let comes = andThen-ok _ _ (asked .1) in
+      let opens = andThen-ok _ _ (sym (seekingFresh-is bs t target) ∙ comes .1) in
       let laid = andThen-ok _ _ (sym (opening-is bs t) ∙ opens .1) in
-      omega (arith, seeking-near _ _ _ _ (seeks .1), ok-same (seeks .2), count-most t bs (laid .1))
+      omega (arith, fresh-near bs t target (comes .1), ok-same (comes .2), count-most t bs (laid .1))

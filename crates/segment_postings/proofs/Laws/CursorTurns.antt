@@ -21,7 +21,7 @@ use Rattle.segment_postings.specs.declared.find.Found.{Found}
 use Rattle.segment_postings.specs.declared.find.Start.{Start}
 use Rattle.segment_postings.specs.Landing.{tailInfo, firstStart, startAfter, findBlock, loadBlock, holding, landing}
 use Rattle.segment_postings.specs.Cursor.{position, inBounds, answerAt}
-use Rattle.segment_postings.specs.Cursor.{moved, blank, opening, opened, atPlace, startsInside, startBehind, leaving, stepping, advanced, placeOf, within, behind, seeking}
+use Rattle.segment_postings.specs.Cursor.{moved, blank, opening, opened, atPlace, startsInside, startBehind, leaving, stepping, advanced, placeOf, within, behind, seeking, seekingFresh}
 
 pub findBlock-zero : (option : IndexRecordOption) (skips bs : List ℕ) (target : ℕ) (s : Start)
     → findBlock option skips bs target zero s
@@ -113,3 +113,7 @@ pub seeking-is : (c : SegmentPostings) (bs : List ℕ) (t : Term) (target : ℕ)
     choose (leb target (c .held .«last_doc»)) (λ _. within c t target) (λ _. behind c bs t target))
 unfolding seeking
 seeking-is c bs t target = refl
+
+pub seekingFresh-is : (bs : List ℕ) (t : Term) (target : ℕ) → seekingFresh bs t target ≡ andThen (opening bs t) λ c. seeking c bs t target
+unfolding seekingFresh
+seekingFresh-is bs t target = refl

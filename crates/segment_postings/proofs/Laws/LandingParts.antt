@@ -73,6 +73,16 @@ unfolding laid
 laid-refused (ok k) e = absurd (let z : _≡_ {A = ℕ} 0 1 = cc in omega arith)
 laid-refused (refused m) e = cc
 
+pub reached-ok : (o : Outcome SegmentPostings) {h : Held} → reached o ≡ reached-as.At h → (c : SegmentPostings) × (o ≡ ok c) × (c .held ≡ h)
+unfolding reached
+reached-ok (ok c) e = (c, refl, cc)
+reached-ok (refused m) e = absurd (let z : _≡_ {A = ℕ} 0 1 = cc in omega arith)
+
+pub reached-refused : (o : Outcome SegmentPostings) {n : ℕ} → reached o ≡ reached-as.Refused n → o ≡ refused n
+unfolding reached
+reached-refused (ok c) e = absurd (let z : _≡_ {A = ℕ} 0 1 = cc in omega arith)
+reached-refused (refused m) e = cc
+
 -- ---- a block that was found, unpacked
 
 -- the numbers of a cursor at the block's first place
@@ -238,23 +248,17 @@ module _ (c : SegmentPostings) (bs : List ℕ) (t : Term) where
 
 -- ---- where a call that came somewhere has come to
 
+cursor-is : (c : SegmentPostings) {h : Held} {docs freqs : List ℕ} → docs ≡ c .docs → freqs ≡ c .freqs → c .held ≡ h → c ≡ cursorOf h docs freqs
+cursor-is c d f e = rw (d, f, ← e)
+
 pub landed-at : {o : Outcome SegmentPostings} {docs freqs : List ℕ} {r : Reached} {h : Held}
     → Lands o docs freqs r → r ≡ reached-as.At h → o ≡ ok (cursorOf h docs freqs)
-unfolding reached
-landed-at {o} {docs} {freqs} {r} {h} k e = go o (sym (k .answer) ∙ e) (k .docs-are) (k .freqs-are)
-  where
-    go : (o : Outcome SegmentPostings) → reached o ≡ reached-as.At h → ((c : SegmentPostings) → o ≡ ok c → docs ≡ c .docs)
-        → ((c : SegmentPostings) → o ≡ ok c → freqs ≡ c .freqs) → o ≡ ok (cursorOf h docs freqs)
-    go (ok c) a d f = let s : c .held ≡ h = cc in rw (d c refl, f c refl) (ap (λ (x : Held). ok (cursorOf x (c .docs) (c .freqs))) s)
-    go (refused n) a d f = absurd (let z : _≡_ {A = ℕ} 0 1 = cc in omega arith)
+landed-at {o} k e =
+    let c = reached-ok o (sym (k .answer) ∙ e) in
+    c .1 ∙ ap ok (cursor-is (c .0) (k .docs-are (c .0) (c .1)) (k .freqs-are (c .0) (c .1)) (c .2))
 
 pub landed-nowhere : {o : Outcome SegmentPostings} {docs freqs : List ℕ} {r : Reached} {n : ℕ} → Lands o docs freqs r → r ≡ reached-as.Refused n → o ≡ refused n
-unfolding reached
-landed-nowhere {o} {n = n} k e = go o (sym (k .answer) ∙ e)
-  where
-    go : (o : Outcome SegmentPostings) → reached o ≡ reached-as.Refused n → o ≡ refused n
-    go (ok c) a = absurd (let z : _≡_ {A = ℕ} 0 1 = cc in omega arith)
-    go (refused m) a = cc
+landed-nowhere {o} k e = reached-refused o (sym (k .answer) ∙ e)
 
 -- a call that leaves its arrays in a refusal tells no less than one that may lose them
 reaches-lands : {o : Outcome SegmentPostings} {docs freqs docs′ freqs′ : List ℕ} {r : Reached} → Reaches o docs freqs docs′ freqs′ r → Lands o docs′ freqs′ r

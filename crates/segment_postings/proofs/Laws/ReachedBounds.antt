@@ -1,6 +1,7 @@
 -- Where a step or a seek comes to, from any cursor whose numbers are in bounds, one that no call left too: a place of a block, and a
 -- position at most the count. A step goes one on before the end, or to the first place behind a full block. A seek stays, goes to a
--- place of the held block that was tested, or lands on a block, in which the search answers a place (SearchOnLanding.antt).
+-- place of the held block that was tested, or lands on a block, in which the search answers a place (SearchOnLanding.antt). So does a fresh
+-- cursor's.
 -- Assumes nothing.
 use mathlib.Core.List.{List}
 use mathlib.Core.Logic.{⊎-elim}
@@ -15,12 +16,12 @@ use Rattle.format.specs.Layout.{fullBlocks}
 use Rattle.format.proofs.Choice.{choose-elim}
 use Rattle.format.proofs.Outcome.{ok-same, ask-ok, andThen-ok}
 use Rattle.segment_postings.specs.declared.SegmentPostings.{SegmentPostings}
-use Rattle.segment_postings.specs.Cursor.{position, atPlace, leaving, stepping, within, behind, seeking}
+use Rattle.segment_postings.specs.Cursor.{position, atPlace, leaving, stepping, within, behind, seeking, seekingFresh}
 use Rattle.segment_postings.proofs.core.Question16.{Bounded, bounded}
 use Rattle.segment_postings.proofs.Simulation.SearchOnLanding.{leaving-placed}
 use Rattle.segment_postings.proofs.Laws.LandingParts.{landing-first, leaves-full}
 use Rattle.segment_postings.proofs.seeks.SeekCases.{tested, within-is}
-use Rattle.segment_postings.proofs.Laws.CursorTurns.{leaving-is, stepping-is, behind-is, seeking-is}
+use Rattle.segment_postings.proofs.Laws.CursorTurns.{leaving-is, stepping-is, behind-is, seeking-is, seekingFresh-is}
 
 abbrev pub Near : Term → SegmentPostings → Type 0
 Near t d = (d .held .place < 128) × (128 * d .held .block + d .held .place ≤ t .count)
@@ -83,3 +84,8 @@ module _ (c : SegmentPostings) (bs : List ℕ) (t : Term) where
         (λ _. choose-elim goal _ _ _ (λ _. within-near) (λ _. behind-near (leb-true _ _ (small .0))))
         (small .1))
         (asked .1)
+
+-- ---- a fresh cursor's seek
+
+pub fresh-near : (bs : List ℕ) (t : Term) (target : ℕ) {d : SegmentPostings} → seekingFresh bs t target ≡ ok d → Near t d
+fresh-near bs t target e = seeking-near _ bs t target (andThen-ok _ _ (sym (seekingFresh-is bs t target) ∙ e) .2)

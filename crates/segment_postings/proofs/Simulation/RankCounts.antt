@@ -24,7 +24,7 @@ use Rattle.format.proofs.Visited.{seek-goes}
 use Rattle.segment_postings.specs.Cursor.{position, ranking}
 use Rattle.segment_postings.proofs.Simulation.HoldsBlock.{opening-landed, landed-there}
 use Rattle.segment_postings.proofs.Simulation.SeekSimulates.{seeking-seeks}
-use Rattle.segment_postings.proofs.seeks.SeekCases.{ranking-too-large, ranking-found}
+use Rattle.segment_postings.proofs.seeks.SeekCases.{fresh-opened, ranking-too-large, ranking-found}
 
 module _ (mode count : ℕ) (bs : List ℕ) (target : ℕ) where
   abbrev term : ℕ → Term
@@ -40,7 +40,7 @@ module _ (mode count : ℕ) (bs : List ℕ) (target : ℕ) where
       let p = opening-landed s in
       let q = seeking-seeks s (p .1 .holds) target small in
       let first : position (p .0) ≡ 0 = omega (arith, landed-there s (p .1), p .1 .place-first) in
-      ranking-found mode count bs target small (p .2) (q .2) ∙ ap ok (omega (arith, q .1 .goes))
+      ranking-found mode count bs target small (fresh-opened bs (term 0) target (p .2) ∙ q .2) ∙ ap ok (omega (arith, q .1 .goes))
 
   module _ (sound : soundness mode count bs ≡ 0) (small : target ≤ TERMINATED) where
     abbrev docs : List ℕ

@@ -16,10 +16,10 @@ use Rattle.segment_postings.specs.declared.Held.{Held}
 use Rattle.segment_postings.specs.declared.Reached.{Reached}
 use Rattle.segment_postings.specs.declared.Reached.the-variants as reached-as
 use Rattle.segment_postings.specs.declared.SegmentPostings.{SegmentPostings}
-use Rattle.segment_postings.specs.Cursor.{inBounds, position, opening, heldAt, atPlace, leaving, placeOf, within, behind, seeking, ranking}
+use Rattle.segment_postings.specs.Cursor.{inBounds, position, opening, heldAt, atPlace, leaving, placeOf, within, behind, seeking, seekingFresh, ranking}
 use Rattle.segment_postings.specs.Calls.{cursorOf, reached, Reaches}
 use Rattle.segment_postings.proofs.Laws.LandingParts.{reaches-as, reached-at, reached-nowhere}
-use Rattle.segment_postings.proofs.Laws.CursorTurns.{behind-is, seeking-is}
+use Rattle.segment_postings.proofs.Laws.CursorTurns.{behind-is, seeking-is, seekingFresh-is}
 
 -- ---- what follows a call on lent arrays
 
@@ -130,7 +130,16 @@ module _ (c : SegmentPostings) (bs : List ℕ) (t : Term) (target : ℕ) where
           unfolding ask choose position
           seeking-behind h = rw (seeking-is, in-bounds, before, le-leb _ _ small, lt-leb _ _ ahead, lt-leb _ _ h)
 
--- ---- the rank
+-- ---- a fresh cursor's seek, and the rank
+
+module _ (bs : List ℕ) (t : Term) (target : ℕ) where
+  pub fresh-unopened : {n : ℕ} → opening bs t ≡ refused n → seekingFresh bs t target ≡ refused n
+  unfolding andThen
+  fresh-unopened e = rw (seekingFresh-is, e)
+
+  pub fresh-opened : {c : SegmentPostings} → opening bs t ≡ ok c → seekingFresh bs t target ≡ seeking c bs t target
+  unfolding andThen
+  fresh-opened e = rw (seekingFresh-is, e)
 
 module _ (mode count : ℕ) (bs : List ℕ) (target : ℕ) where
   abbrev term : Term
@@ -138,9 +147,7 @@ module _ (mode count : ℕ) (bs : List ℕ) (target : ℕ) where
 
   pub ranking-is : ranking mode count bs target
       ≡ (ask (leb target TERMINATED) targetTooLarge λ _.
-      andThen (opening bs term) λ c.
-      andThen (seeking c bs term target) λ d.
-      ok (position d))
+      andThen (seekingFresh bs term target) λ c. ok (position c))
   unfolding ranking
   ranking-is = refl
 
@@ -149,15 +156,10 @@ module _ (mode count : ℕ) (bs : List ℕ) (target : ℕ) where
   ranking-too-large h = rw (ranking-is, lt-leb _ _ h)
 
   module _ (small : target ≤ TERMINATED) where
-    pub ranking-unopened : {n : ℕ} → opening bs term ≡ refused n → ranking mode count bs target ≡ refused n
+    pub ranking-none : {n : ℕ} → seekingFresh bs term target ≡ refused n → ranking mode count bs target ≡ refused n
     unfolding ask andThen
-    ranking-unopened e = rw (ranking-is, le-leb _ _ small, e)
+    ranking-none e = rw (ranking-is, le-leb _ _ small, e)
 
-    module _ {c : SegmentPostings} (opens : opening bs term ≡ ok c) where
-      pub ranking-unsought : {n : ℕ} → seeking c bs term target ≡ refused n → ranking mode count bs target ≡ refused n
-      unfolding ask andThen
-      ranking-unsought e = rw (ranking-is, le-leb _ _ small, opens, e)
-
-      pub ranking-found : {d : SegmentPostings} → seeking c bs term target ≡ ok d → ranking mode count bs target ≡ ok (128 * d .held .block + d .held .place)
-      unfolding ask andThen position
-      ranking-found e = rw (ranking-is, le-leb _ _ small, opens, e)
+    pub ranking-found : {c : SegmentPostings} → seekingFresh bs term target ≡ ok c → ranking mode count bs target ≡ ok (128 * c .held .block + c .held .place)
+    unfolding ask andThen position
+    ranking-found e = rw (ranking-is, le-leb _ _ small, e)
