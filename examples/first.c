@@ -44,12 +44,13 @@ int main(void) {
 
     /* Seek 8, then a step: by value, and on a lent cursor. */
     const uint64_t by_value[] = {((uint64_t)1 << 32) + 8, 0}, lent[] = {((uint64_t)3 << 32) + 8, (uint64_t)2 << 32};
-    uint64_t answers[15], lent_answers[15];
-    n = vilthorwy_run_calls(1, 1, 3, image, size, by_value, 2, answers, 15);
+    enum { PLACES = 3 * VILTHORWY_ANSWER_NUMBERS };
+    uint64_t answers[PLACES], lent_answers[PLACES];
+    n = vilthorwy_run_calls(1, 1, 3, image, size, by_value, 2, answers, PLACES);
     must(n == 3, "opening and both calls are answered");
-    must(vilthorwy_run_calls(1, 1, 3, image, size, lent, 2, lent_answers, 15) == n, "as many on a lent cursor");
+    must(vilthorwy_run_calls(1, 1, 3, image, size, lent, 2, lent_answers, PLACES) == n, "as many on a lent cursor");
     must(memcmp(answers, lent_answers, sizeof answers) == 0, "the answers are the same");
-    for (const uint64_t *a = answers; a < answers + 5 * n; a += 5) {
+    for (const uint64_t *a = answers; a < answers + PLACES; a += VILTHORWY_ANSWER_NUMBERS) {
         must(a[0] == 0, "the call isn't refused");
         printf("at %" PRIu64 ", frequency %" PRIu64 ", %" PRIu64 " unpacked\n", a[1], a[2], a[3]);
     }

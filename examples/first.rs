@@ -20,6 +20,9 @@ unsafe extern "C" {
         answers: *mut u64, answers_len: usize) -> u64;
 }
 
+/// How many numbers an answer of `vilthorwy_run_calls` is, in the order that include/vilthorwy.h says.
+const ANSWER_NUMBERS: usize = 5;
+
 /// The answer itself; the program ends where it is a refusal.
 fn taken(call: &str, answer: u64) -> u64 {
     assert!(answer < 1 << 63, "{call} refused: {}", answer - (1 << 63));
@@ -60,13 +63,13 @@ fn main() {
 
         // Seek 8, then a step: by value, and on a lent cursor.
         let (by_value, lent) = ([(1u64 << 32) + 8, 0], [(3u64 << 32) + 8, 2 << 32]);
-        let [mut answers, mut lent_answers] = [[0u64; 15]; 2];
+        let [mut answers, mut lent_answers] = [[0u64; 3 * ANSWER_NUMBERS]; 2];
         for (calls, answers) in [(by_value, &mut answers), (lent, &mut lent_answers)] {
-            let n = vilthorwy_run_calls(1, 1, 3, image.as_ptr(), image.len(), calls.as_ptr(), 2, answers.as_mut_ptr(), 15);
+            let n = vilthorwy_run_calls(1, 1, 3, image.as_ptr(), image.len(), calls.as_ptr(), 2, answers.as_mut_ptr(), answers.len());
             assert_eq!(n, 3, "opening and both calls are answered");
         }
         assert_eq!(answers, lent_answers);
-        for answer in answers.chunks(5) {
+        for answer in answers.chunks(ANSWER_NUMBERS) {
             assert_eq!(answer[0], 0, "the call isn't refused");
             println!("at {}, frequency {}, {} unpacked", answer[1], answer[2], answer[3]);
         }

@@ -19,6 +19,9 @@ extern "C" {
 #define VILTHORWY_REFUSED ((uint64_t)1 << 63)
 /* The document answered behind the last one. Ids lie below it. */
 #define VILTHORWY_TERMINATED 2147483647u
+/* How many numbers an answer of vilthorwy_run_calls is: refusal or 0, document, frequency, blocks unpacked, entries read; with a refusal
+ * the others are 0. */
+#define VILTHORWY_ANSWER_NUMBERS 5
 
 /* The numbers of the refusals. F is the number of full blocks, count / 128; the tail is the count % 128 documents behind them. */
 enum {
@@ -79,11 +82,10 @@ uint64_t vilthorwy_rank(uint8_t mode, uint32_t count, const uint8_t *image, size
 uint64_t vilthorwy_total(uint8_t mode, uint32_t count, const uint8_t *image, size_t image_len, uint32_t target);
 
 /* Opens a cursor and makes calls on it in order. A call is kind * 2^32 + target; kinds: 0 step, 1 seek, 2 step on a lent cursor, 3 seek on
- * a lent cursor; a step takes no notice of its target. Five numbers are answered for the opening and for each call: refusal or 0,
- * document, frequency, blocks unpacked, entries read; with a refusal the other four are 0, and the next call finds the cursor as it
- * was. At the end the document is 2147483647 and the frequency 0. Of an image that isn't sound the call is refused that comes to read
- * what is wrong. Returns how many answers were written: one for a refused opening; 0, and nothing written, where answers is shorter than
- * 5 * (calls + 1) or a kind is unknown. */
+ * a lent cursor; a step takes no notice of its target. VILTHORWY_ANSWER_NUMBERS numbers are answered for the opening and for each call.
+ * After a refusal the next call finds the cursor as it was. At the end the document is 2147483647 and the frequency 0. Of an image that
+ * isn't sound the call is refused that comes to read what is wrong. Returns how many answers were written: one for a refused opening; 0,
+ * and nothing written, where answers is shorter than VILTHORWY_ANSWER_NUMBERS * (calls + 1) or a kind is unknown. */
 uint64_t vilthorwy_run_calls(uint8_t mode, uint8_t requested, uint32_t count, const uint8_t *image, size_t image_len,
                              const uint64_t *calls, size_t calls_len, uint64_t *answers, size_t answers_len);
 

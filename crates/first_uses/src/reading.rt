@@ -3,6 +3,7 @@
 use crate::telling::tell;
 use crate::telling::tell_answer;
 use crate::telling::tell_value;
+use postings::ANSWER_NUMBERS;
 use postings::Held;
 use postings::Reached;
 use postings::TERMINATED;
@@ -95,10 +96,10 @@ pub(crate) fn list_all(image: &[u8], term: Term) {
     tell_value(b"read", read);
 }
 
-// A list of calls in one, coded as numbers: a seek to 300 and a step. Opening and both are answered, five numbers each.
+// A list of calls in one, coded as numbers: a seek to 300 and a step. Opening and both are answered.
 pub(crate) fn call_all(image: &[u8], term: Term) {
     let calls = [4294967296 + 300, 0];
-    let mut answers = [0u64; 15];
+    let mut answers = [0u64; 3 * ANSWER_NUMBERS];
     let n = run_calls(image, term, &calls, &mut answers);
     tell(b"run_calls", n as u64);
 }

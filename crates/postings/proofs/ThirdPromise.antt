@@ -40,7 +40,7 @@ use Rattle.segment_postings.specs.declared.Reached.{Reached}
 use Rattle.segment_postings.specs.declared.SegmentPostings.{SegmentPostings}
 use Rattle.segment_postings.specs.Cursor.{answering, moved, opened, stepping, seeking, advanced, sought}
 use Rattle.segment_postings.specs.Calls.{cursorOf, Reaches}
-use Rattle.segment_postings.specs.Called.{shown, called, callsFrom, calls, cursorAfter, positions, modelNumbers}
+use Rattle.segment_postings.specs.Called.{shown, called, callsFrom, calls, cursorAfter, positions, answerLength, entriesPlace, modelNumbers}
 use Rattle.segment_postings.specs.Called.{SameCall}
 use Rattle.segment_postings.proofs.Laws.CallsByValue.{open-in-calls, advance-in-calls, seek-in-calls}
 use Rattle.segment_postings.proofs.Laws.LandingParts.{answering-at, answerAt-at}
@@ -186,11 +186,11 @@ codes-known (coded {n = n} code later) =
 -- what its contract says, of the calls by value and on a lent cursor in any mixture: the places written are the model's answers in order
 pub run-calls-promise : (bs : List ℕ) (t : Term) → soundness (t .mode) (t .count) bs ≡ 0 → t .requested ≤ 2
     → {made : List MadeCall} {ns : List ℕ} → Codes made ns → {out out′ : List ℕ} {r : ℕ} → Runs bs t ns out out′ r
-    → 5 * (length made + 1) ≤ length out
+    → answerLength * (length made + 1) ≤ length out
     → (r ≡ length made + 1)
     × (out′ ≡ putAt 0 (modelNumbers (t .count)
     (answers (docsOf (reading t bs .blocks)) (freqsOf (reading t bs .blocks)) (callsOf made)) (positions (docsOf (reading t bs .blocks)) (callsOf made))) out)
-    × ((i : ℕ) → i ≤ length made → getD out′ (5 * i + 4) 0 ≤ t .count / 128)
+    × ((i : ℕ) → i ≤ length made → getD out′ (answerLength * i + entriesPlace) 0 ≤ t .count / 128)
 unfolding modelAnswers
 run-calls-promise bs t sound known {made} {ns} codes {out} runs room =
     let p = codes-known codes in

@@ -14,7 +14,7 @@ use Rattle.segment_postings.specs.declared.Answer.{Answer}
 use Rattle.segment_postings.specs.declared.Answer.the-variants.{At, Refused}
 use Rattle.segment_postings.specs.declared.Moved.{Moved}
 use Rattle.segment_postings.specs.Cursor.{opened}
-use Rattle.segment_postings.specs.Called.{callsFrom, allNumbers, positions, modelNumbers}
+use Rattle.segment_postings.specs.Called.{callsFrom, answerLength, entriesPlace, allNumbers, positions, modelNumbers}
 
 -- ---- calls as numbers: kind * 2 ^ 32 + target
 
@@ -36,10 +36,10 @@ allKnown (n ∷ ns) = and (ltb (kindOf n) 4) (allKnown ns)
 
 -- ---- what is answered
 
--- five places for opening and for each call, asked even where opening would be refused, and every kind known
+-- places for the numbers of opening and of each call, asked even where opening would be refused, and every kind known
 unfoldable pub taken : List ℕ → List ℕ → Bool
 unfolding allKnown
-taken ns out = and (leb (5 * (length ns + 1)) (length out)) (allKnown ns)
+taken ns out = and (leb (answerLength * (length ns + 1)) (length out)) (allKnown ns)
 
 -- where opening was refused there is no cursor to call
 unfoldable pub unlessRefused : Answer → List Answer → List Answer
@@ -56,7 +56,7 @@ unfoldable pub howMany : List ℕ → Term → List ℕ → List ℕ → ℕ
 unfolding choose taken answered
 howMany bs t ns out = choose (taken ns out) (λ _. length (answered bs t ns)) (λ _. 0)
 
--- five numbers for each answer, from the first place on; every place behind them as before
+-- the numbers of each answer, from the first place on; every place behind them as before
 unfoldable pub answersAfter : List ℕ → Term → List ℕ → List ℕ → List ℕ
 unfolding choose taken answered allNumbers putAt
 answersAfter bs t ns out = choose (taken ns out) (λ _. putAt 0 (allNumbers (answered bs t ns)) out) (λ _. out)
@@ -76,7 +76,7 @@ modelAnswers bs t ns =
 pub record AsModel (bs : List ℕ) (t : Term) (ns out out′ : List ℕ) (r : ℕ) : Type 0 where
   pub all-answered : r ≡ length ns + 1
   pub model-answers : out′ ≡ putAt 0 (modelAnswers bs t ns) out
-  pub entries-most : (i : ℕ) → i ≤ length ns → getD out′ (5 * i + 4) 0 ≤ t .count / 128
+  pub entries-most : (i : ℕ) → i ≤ length ns → getD out′ (answerLength * i + entriesPlace) 0 ≤ t .count / 128
 
 pub record Runs (bs : List ℕ) (t : Term) (ns out out′ : List ℕ) (r : ℕ) : Type 0 where
   pub answer : r ≡ howMany bs t ns out

@@ -17,8 +17,7 @@ use Rattle.segment_postings.specs.declared.SegmentPostings.{SegmentPostings}
 use Rattle.segment_postings.specs.declared.Value.{Value}
 use Rattle.segment_postings.specs.Cursor.{answering, docAt, freqAt}
 use Rattle.segment_postings.specs.Calls.{valued}
-use Rattle.segment_postings.specs.Called.{Counts}
-use Rattle.segment_postings.specs.Called.{shown, valueNumbers, allNumbers, positions, modelNumbers}
+use Rattle.segment_postings.specs.Called.{shown, answerLength, entriesPlace, valueNumbers, allNumbers, positions, modelNumbers, Counts}
 
 -- no number twice
 unfoldable pub distinct : List ℕ → Bool
@@ -41,7 +40,7 @@ pub record Promised (bs : List ℕ) (t : Term) (cs : List Call) (told : List Ans
   -- .. with the entries read that lead to the block of the model's position, at most as many as full blocks
   pub model-entries : allNumbers told
       ≡ modelNumbers (t .count) (answers (docsOf (reading t bs .blocks)) (freqsOf (reading t bs .blocks)) cs) (positions (docsOf (reading t bs .blocks)) cs)
-  pub entries-most : (i : ℕ) → getD (allNumbers told) (5 * i + 4) 0 ≤ t .count / 128
+  pub entries-most : (i : ℕ) → getD (allNumbers told) (answerLength * i + entriesPlace) 0 ≤ t .count / 128
   -- and after the list the cursor is at the model's position, with as many blocks unpacked as the model has visited
   pub model-state : Counts t c (stateAfter bs t cs)
   -- .. `doc` and `term_freq` give the document and the frequency at that position, at the end TERMINATED and 0, and `answer_at` gives

@@ -11,12 +11,15 @@ use segment_postings::seek;
 use segment_postings::seek_by_lending;
 ghost use mathlib.Core.Bool.{true};
 ghost use mathlib.Core.Path.{_≡_};
-ghost use mathlib.Core.List.{[], _∷_, map};
+ghost use mathlib.Core.List.{map};
 ghost use Prim.Native.Nat.{_+_, _*_, _≤_};
 ghost use lib.ListN.{length};
 ghost use Rattle.format.specs.Basics.{putAt};
-ghost use Rattle.segment_postings.specs.Called.{called, callsFrom, numbers, allNumbers};
+ghost use Rattle.segment_postings.specs.Called.{called, callsFrom, answerLength, numbers, allNumbers};
 ghost use Rattle.postings.specs.RunCalls.{callOf, allKnown, Runs};
+
+// How many numbers an answer is: a refusal's number or 0, document, frequency, blocks unpacked, entries read.
+pub const ANSWER_NUMBERS: usize = 5;
 
 // Whether every kind is known.
 fn kinds_known(calls: &[u64]) -> bool
@@ -48,30 +51,9 @@ fn make_call(cursor: SegmentPostings, image: &[u8], term: Term, call: u64) -> Mo
     seek_by_lending(cursor, image, term, target)
 }
 
-// Writes the five numbers of an answer.
-fn put_numbers(
-    number: u64,
-    doc: u64,
-    freq: u64,
-    unpacked: u64,
-    entries: u64,
-    answers: &mut [u64],
-    at: usize,
-)
-    requires { ⌜ at + 5 ≤ length (now answers) ⌝ }
-    ensures { λ r. ⌜ now (answers .exit) ≡ putAt at (number ∷ doc ∷ freq ∷ unpacked ∷ entries ∷ []) (now (answers .entry)) ⌝ }
-{
-    answers[at] = number;
-    answers[at + 1] = doc;
-    answers[at + 2] = freq;
-    answers[at + 3] = unpacked;
-    answers[at + 4] = entries;
-}
-
-// Writes an answer.
-fn put_answer(answer: Answer, answers: &mut [u64], at: usize)
-    requires { ⌜ at + 5 ≤ length (now answers) ⌝ }
-    ensures { λ r. ⌜ now (answers .exit) ≡ putAt at (numbers answer) (now (answers .entry)) ⌝ }
+// An answer's numbers, in order.
+fn numbers_of(answer: Answer) -> [u64; ANSWER_NUMBERS]
+    ensures { λ r. ⌜ r ≡ numbers answer ⌝ }
 {
     match answer {
         Answer::At {
@@ -79,40 +61,42 @@ fn put_answer(answer: Answer, answers: &mut [u64], at: usize)
             freq,
             unpacked,
             entries,
-        } => put_numbers(
-            0,
-            doc as u64,
-            freq as u64,
-            unpacked as u64,
-            entries as u64,
-            answers,
-            at,
-        ),
-        Answer::Refused(n) => put_numbers(n as u64, 0, 0, 0, 0, answers, at),
+        } => [0, doc as u64, freq as u64, unpacked as u64, entries as u64],
+        Answer::Refused(n) => [n as u64, 0, 0, 0, 0],
+    }
+}
+
+// Writes an answer.
+fn put_answer(answer: Answer, answers: &mut [u64], at: usize)
+    requires { ⌜ at + answerLength ≤ length (now answers) ⌝ }
+    ensures { λ r. ⌜ now (answers .exit) ≡ putAt at (numbers answer) (now (answers .entry)) ⌝ }
+{
+    let numbers = numbers_of(answer);
+    for i in 0..ANSWER_NUMBERS {
+        answers[at + i] = numbers[i];
     }
 }
 
 // Makes the calls in order, each on the cursor as the last one left it, and writes their answers behind opening's.
 fn run_from(opened: Moved, image: &[u8], term: Term, calls: &[u64], answers: &mut [u64])
-    requires { ⌜ 5 * (length (now calls) + 1) ≤ length (now answers) ⌝ }
-    ensures { λ r. ⌜ now (answers .exit) ≡ putAt 5 (allNumbers (callsFrom (now (image .entry)) term (opened .cursor) (map callOf (now (calls .entry))))) (now (answers .entry)) ⌝ }
+    requires { ⌜ answerLength * (length (now calls) + 1) ≤ length (now answers) ⌝ }
+    ensures { λ r. ⌜ now (answers .exit) ≡ putAt answerLength (allNumbers (callsFrom (now (image .entry)) term (opened .cursor) (map callOf (now (calls .entry))))) (now (answers .entry)) ⌝ }
 {
     let mut moved = opened;
     for i in 0..calls.len() {
         moved = make_call(moved.cursor, image, term, calls[i]);
         let answer = moved.answer;
-        put_answer(answer, answers, 5 * i + 5);
+        put_answer(answer, answers, ANSWER_NUMBERS * (i + 1));
     }
 }
 
 // Opens a list and makes calls on its cursor, one number each: kind * 2 ^ 32 + target. Kind 0 advances and 1 seeks by value, 2 advances
-// and 3 seeks on a lent cursor. Each answer is five numbers, opening's first: a refusal's number or 0, document, frequency, blocks
-// unpacked, entries read. It answers how many answers were written, 1 after a refused opening; and 0, with nothing written, where
-// there are fewer than five places for each or a kind is unknown.
+// and 3 seeks on a lent cursor. Each answer is `ANSWER_NUMBERS` numbers, opening's first. It answers how many answers were written, 1
+// after a refused opening; and 0, with nothing written, where there are too few places for all of them or a kind is unknown.
 pub fn run_calls(image: &[u8], term: Term, calls: &[u64], answers: &mut [u64]) -> usize
     ensures { λ r. ⌜ Runs (now (image .entry)) term (now (calls .entry)) (now (answers .entry)) (now (answers .exit)) r ⌝ }
 {
-    if answers.len() / 5 <= calls.len() {
+    if answers.len() / ANSWER_NUMBERS <= calls.len() {
         return 0;
     }
     if !kinds_known(calls) {

@@ -84,10 +84,11 @@
 //
 // A LIST OF CALLS in one, coded as numbers (calls.rt): for comparisons with another engine and for measuring.
 //
-//     let n = run_calls(image, term, &[4294967296 + 300, 0], &mut answers);      // opens, seeks 300, steps: 3 answers of 5 numbers
+//     let n = run_calls(image, term, &[4294967296 + 300, 0], &mut answers);      // opens, seeks 300, steps: 3 answers of `ANSWER_NUMBERS` numbers
 
 mod calls;
 
+pub use crate::calls::ANSWER_NUMBERS;
 pub use crate::calls::run_calls;
 pub use format::TERMINATED;
 pub use format::Term;

@@ -4,8 +4,8 @@
 -- Assumes nothing.
 use mathlib.Core.List.{List, [], _∷_, _++_}
 use mathlib.Core.Path.{_≡_}
-use Prim.Native.Nat.{ℕ}
-use lib.ListN.{length}
+use Prim.Native.Nat.{ℕ, _-_}
+use lib.ListN.{length, replicate}
 use Rattle.format.specs.declared.Term.{Term}
 use Rattle.format.specs.Model.{Answer as Shown, at, refused, Call, step, seek, State, after, entriesRead}
 use Rattle.format.specs.Model as model
@@ -25,6 +25,11 @@ use Rattle.segment_postings.specs.Calls.{cursorOf}
 unfoldable pub shown : Answer → Shown
 shown (At doc freq unpacked entries) = at doc freq unpacked
 shown (Refused n) = refused n
+
+-- .. and the answer that says the same, with the entries read
+unfoldable pub withEntries : Shown → ℕ → Answer
+withEntries (at doc freq unpacked) entries = At doc freq unpacked entries
+withEntries (refused n) entries = Refused n
 
 unfoldable pub called : SegmentPostings → List ℕ → Term → Call → Moved
 unfolding advanced sought
@@ -50,11 +55,18 @@ cursorAfter bs t c (call ∷ cs) = cursorAfter bs t (called c bs t call .cursor)
 
 -- ---- answers as numbers
 
--- the number and the values of each case of an answer: 0, document, frequency, blocks unpacked, entries read; or a refusal's number
--- and zeros
+-- how many numbers an answer is, and the place of the entries read among them
+abbrev pub answerLength : ℕ
+answerLength = 5
+
+abbrev pub entriesPlace : ℕ
+entriesPlace = 4
+
+-- the number and the values of each case of an answer, in order: 0, document, frequency, blocks unpacked, entries read; or a refusal's
+-- number and zeros
 unfoldable pub numbers : Answer → List ℕ
 numbers (At doc freq unpacked entries) = 0 ∷ doc ∷ freq ∷ unpacked ∷ entries ∷ []
-numbers (Refused n) = n ∷ 0 ∷ 0 ∷ 0 ∷ 0 ∷ []
+numbers (Refused n) = n ∷ replicate (answerLength - 1) 0
 
 -- the same of a number that was asked for: 0 and the number, or a refusal's number and 0
 unfoldable pub valueNumbers : Value → List ℕ
@@ -65,11 +77,6 @@ unfoldable pub allNumbers : List Answer → List ℕ
 unfolding numbers
 allNumbers [] = []
 allNumbers (a ∷ rest) = numbers a ++ allNumbers rest
-
--- the same of the model's answer, with entries read
-unfoldable pub shownNumbers : Shown → ℕ → List ℕ
-shownNumbers (at doc freq unpacked) entries = 0 ∷ doc ∷ freq ∷ unpacked ∷ entries ∷ []
-shownNumbers (refused n) entries = n ∷ 0 ∷ 0 ∷ 0 ∷ 0 ∷ []
 
 -- the model's position after each call
 unfoldable pub positionsFrom : List ℕ → State → List Call → List ℕ
@@ -84,10 +91,10 @@ positions ds cs = model.opened .position ∷ positionsFrom ds model.opened cs
 
 -- the model's answers over a list of n documents, each with the entries that lead to the block of its position
 unfoldable pub modelNumbers : ℕ → List Shown → List ℕ → List ℕ
-unfolding shownNumbers entriesRead
+unfolding numbers withEntries entriesRead
 modelNumbers n [] ps = []
 modelNumbers n (a ∷ rest) [] = []
-modelNumbers n (a ∷ rest) (p ∷ ps) = shownNumbers a (entriesRead n p) ++ modelNumbers n rest ps
+modelNumbers n (a ∷ rest) (p ∷ ps) = numbers (withEntries a (entriesRead n p)) ++ modelNumbers n rest ps
 
 -- ---- beside the model, and beside a call on two lent arrays
 

@@ -1,26 +1,26 @@
--- The laws of coded calls and of their answers, each opened by one turn: what a call's number says, an answer's five places, and a
+-- The laws of coded calls and of their answers, each opened by one turn: what a call's number says, an answer's length, and a
 -- list of calls from a place on, whose first answer is that of its call and the rest those on the cursor that it left.
 -- Assumes nothing.
 use mathlib.Core.Path.{_≡_, refl, sym, ap, _∙_}
 use mathlib.Core.Bool.{true, false, _&&_ as and}
 use mathlib.Core.List.{List, [], _∷_, _++_, map}
 use Prim.Native.Nat.{ℕ, suc, _+_, _*_, _/_, _%_, _-_, _≤_, _<_}
-use native.Mathlib.Numerals.{add-one, add-two, add-three, add-four}
+use native.Mathlib.Numerals.{add-one}
 use native.Mathlib.Omega.{arith}
 use lib.Dec.{ltb}
-use lib.ListN.{length, drop, getD, set, length-append, length-map, length-drop}
+use lib.ListN.{length, drop, getD, length-append, length-map, length-drop}
 use lib.Seq.{drop-cons, drop-length}
 use borrow.Author.Tests.{eq-eqb, ne-eqb, lt-ltb, le-ltb}
 use Rattle.format.specs.declared.Term.{Term}
 use Rattle.format.specs.Basics.{choose, putAt}
 use Rattle.format.specs.Model.{Call, step, seek}
-use Rattle.format.proofs.Area.{putAt-fits, putAt-nil, putAt-append}
+use Rattle.format.proofs.Area.{putAt-nil, putAt-append}
 use Rattle.segment_postings.specs.declared.Answer.{Answer}
 use Rattle.segment_postings.specs.declared.Answer.the-variants.{At, Refused}
 use Rattle.segment_postings.specs.declared.Moved.{Moved}
 use Rattle.segment_postings.specs.declared.SegmentPostings.{SegmentPostings}
 use Rattle.segment_postings.specs.Cursor.{advanced, sought}
-use Rattle.segment_postings.specs.Called.{called, callsFrom, numbers, allNumbers}
+use Rattle.segment_postings.specs.Called.{called, callsFrom, answerLength, numbers, allNumbers}
 use Rattle.postings.specs.RunCalls.{kindOf, targetOf, callOf, allKnown}
 
 -- ---- a call's number
@@ -70,22 +70,16 @@ pub known-none : (ns : List ℕ) → allKnown (drop (length ns) ns) ≡ true
 unfolding allKnown
 known-none ns = rw drop-length
 
--- ---- an answer's places
-
-pub five-stores : (p a b c d e : ℕ) (area : List ℕ) → p + 5 ≤ length area
-    → set (set (set (set (set area p a) (p + 1) b) (p + 2) c) (p + 3) d) (p + 4) e ≡ putAt p (a ∷ b ∷ c ∷ d ∷ e ∷ []) area
-five-stores p a b c d e area h = rw (add-one, add-two, add-three, add-four, putAt-fits p (a ∷ b ∷ c ∷ d ∷ e ∷ []) area h)
-
-pub five-numbers : (a : Answer) → length (numbers a) ≡ 5
-unfolding numbers
-five-numbers a = elim a [ At doc freq unpacked entries ↦ refl | Refused n ↦ refl ]
-
 -- ---- a list of calls from a place on
 
-pub all-numbers : (answers : List Answer) → length (allNumbers answers) ≡ 5 * length answers
+pub numbers-length : (a : Answer) → length (numbers a) ≡ answerLength
+unfolding numbers
+numbers-length a = elim a [ At doc freq unpacked entries ↦ refl | Refused n ↦ refl ]
+
+pub all-numbers : (answers : List Answer) → length (allNumbers answers) ≡ answerLength * length answers
 unfolding allNumbers
 all-numbers [] = refl
-all-numbers (a ∷ answers) = rw length-append (omega (arith, five-numbers a, all-numbers answers))
+all-numbers (a ∷ answers) = rw length-append (omega (arith, numbers-length a, all-numbers answers))
 
 pub as-many-answers : (bs : List ℕ) (t : Term) (c : SegmentPostings) (cs : List Call) → length (callsFrom bs t c cs) ≡ length cs
 unfolding callsFrom
@@ -101,7 +95,7 @@ module _ (bs : List ℕ) (t : Term) (ns : List ℕ) where
   abbrev calledAt : ℕ → SegmentPostings → Moved
   calledAt i c = called c bs t (callOf (getD ns i 0))
 
-  numbers-many : (i : ℕ) (c : SegmentPostings) → length (numbersFrom i c) ≡ 5 * (length ns - i)
+  numbers-many : (i : ℕ) (c : SegmentPostings) → length (numbersFrom i c) ≡ answerLength * (length ns - i)
   numbers-many i c = rw (all-numbers, as-many-answers, length-map, length-drop)
 
   numbers-turn : (i : ℕ) (c : SegmentPostings) → i < length ns
@@ -110,23 +104,23 @@ module _ (bs : List ℕ) (t : Term) (ns : List ℕ) where
   numbers-turn i c below = rw (drop-cons ns i 0 below, add-one) refl
 
   -- one call's answer is written, and the rest behind it
-  written-turn : (i : ℕ) (c : SegmentPostings) (area : List ℕ) → i < length ns → 5 * (length ns + 1) ≤ length area
-      → putAt (5 * i + 5) (numbersFrom i c) area
-      ≡ putAt (5 * (i + 1) + 5) (numbersFrom (i + 1) (calledAt i c .cursor)) (putAt (5 * i + 5) (numbers (calledAt i c .answer)) area)
+  written-turn : (i : ℕ) (c : SegmentPostings) (area : List ℕ) → i < length ns → answerLength * (length ns + 1) ≤ length area
+      → putAt (answerLength * (i + 1)) (numbersFrom i c) area
+      ≡ putAt (answerLength * (i + 1 + 1)) (numbersFrom (i + 1) (calledAt i c .cursor)) (putAt (answerLength * (i + 1)) (numbers (calledAt i c .answer)) area)
   written-turn i c area below room =
       let a : List ℕ = numbers (calledAt i c .answer) in
       let b : List ℕ = numbersFrom (i + 1) (calledAt i c .cursor) in
       let turn : numbersFrom i c ≡ a ++ b = numbers-turn i c below in
-      let behind : 5 * i + 5 + length a ≡ 5 * (i + 1) + 5 = omega (arith, five-numbers (calledAt i c .answer)) in
-      ap (λ (l : List ℕ). putAt (5 * i + 5) l area) turn
-      ∙ sym (putAt-append (5 * i + 5) a b area (omega (arith, numbers-many i c, ap length turn)))
-      ∙ ap (λ (q : ℕ). putAt q b (putAt (5 * i + 5) a area)) behind
+      let behind : answerLength * (i + 1) + length a ≡ answerLength * (i + 1 + 1) = omega (arith, numbers-length (calledAt i c .answer)) in
+      ap (λ (l : List ℕ). putAt (answerLength * (i + 1)) l area) turn
+      ∙ sym (putAt-append (answerLength * (i + 1)) a b area (omega (arith, numbers-many i c, ap length turn)))
+      ∙ ap (λ (q : ℕ). putAt q b (putAt (answerLength * (i + 1)) a area)) behind
 
   -- .. on the cursor that the call left
-  pub written-on : (i : ℕ) (c : SegmentPostings) (area : List ℕ) → i < length ns → 5 * (length ns + 1) ≤ length area
-      → {all : List ℕ} → all ≡ putAt (5 * i + 5) (numbersFrom i c) area
-      → {m : Moved} → m ≡ calledAt i c → {area′ : List ℕ} → area′ ≡ putAt (5 * i + 5) (numbers (m .answer)) area
-      → all ≡ putAt (5 * (i + 1) + 5) (numbersFrom (i + 1) (m .cursor)) area′
+  pub written-on : (i : ℕ) (c : SegmentPostings) (area : List ℕ) → i < length ns → answerLength * (length ns + 1) ≤ length area
+      → {all : List ℕ} → all ≡ putAt (answerLength * (i + 1)) (numbersFrom i c) area
+      → {m : Moved} → m ≡ calledAt i c → {area′ : List ℕ} → area′ ≡ putAt (answerLength * (i + 1)) (numbers (m .answer)) area
+      → all ≡ putAt (answerLength * (i + 1 + 1)) (numbersFrom (i + 1) (m .cursor)) area′
   written-on i c area below room so-far called-so stored = rw (stored, called-so) (so-far ∙ written-turn i c area below room)
 
   pub written-all : (c : SegmentPostings) (p : ℕ) (area : List ℕ) → putAt p (numbersFrom (length ns) c) area ≡ area

@@ -16,39 +16,37 @@ use Rattle.format.proofs.Requested.{sound-requested}
 use Rattle.segment_postings.specs.declared.Answer.{Answer}
 use Rattle.segment_postings.specs.declared.Answer.the-variants.{At, Refused}
 use Rattle.segment_postings.specs.Cursor.{opened}
-use Rattle.segment_postings.specs.Called.{shown, callsFrom, calls, allNumbers, shownNumbers, positions, modelNumbers}
+use Rattle.segment_postings.specs.Called.{shown, withEntries, callsFrom, calls, positions}
+use Rattle.segment_postings.specs.Called.{answerLength, entriesPlace, numbers, allNumbers, modelNumbers}
 use Rattle.segment_postings.proofs.Simulation.CallsSimulate.{calls-show, calls-numbers}
 use Rattle.postings.specs.RunCalls.{callOf, unlessRefused, answered, modelAnswers}
-use Rattle.postings.proofs.calls.CodedCalls.{as-many-answers}
+use Rattle.postings.proofs.calls.CodedCalls.{numbers-length, as-many-answers}
 
 -- ---- entries read
 
-entry-of : (a : Shown) (e n : ℕ) → e ≤ n → getD (shownNumbers a e) 4 0 ≤ n
-unfolding shownNumbers
+entry-of : (a : Shown) (e n : ℕ) → e ≤ n → getD (numbers (withEntries a e)) entriesPlace 0 ≤ n
+unfolding numbers withEntries
 entry-of (at doc freq unpacked) e n h = h
 entry-of (refused k) e n h = omega arith
-
-shown-five : (a : Shown) (e : ℕ) → length (shownNumbers a e) ≡ 5
-unfolding shownNumbers
-shown-five (at doc freq unpacked) e = refl
-shown-five (refused k) e = refl
 
 entries-most : (n p : ℕ) → entriesRead n p ≤ n / 128
 unfolding entriesRead
 entries-most n p = omega arith
 
--- the fifth number of every answer
-pub entry-most : (n : ℕ) (told : List Shown) (ps : List ℕ) (i : ℕ) → getD (modelNumbers n told ps) (5 * i + 4) 0 ≤ n / 128
+-- of every answer
+pub entry-most : (n : ℕ) (told : List Shown) (ps : List ℕ) (i : ℕ) → getD (modelNumbers n told ps) (answerLength * i + entriesPlace) 0 ≤ n / 128
 unfolding modelNumbers
 entry-most n [] ps i = omega arith
 entry-most n (a ∷ told) [] i = omega arith
 entry-most n (a ∷ told) (p ∷ ps) zero =
-    rw (List·getD-append (shownNumbers a (entriesRead n p)) (modelNumbers n told ps) 0 4 (omega (arith, shown-five a (entriesRead n p))))
+    let first : Answer = withEntries a (entriesRead n p) in
+    rw (List·getD-append (numbers first) (modelNumbers n told ps) 0 entriesPlace (omega (arith, numbers-length first)))
     (entry-of a (entriesRead n p) (n / 128) (entries-most n p))
 entry-most n (a ∷ told) (p ∷ ps) (suc i) =
-    let here : List ℕ = shownNumbers a (entriesRead n p) in
-    let behind : 5 * suc i + 4 ≡ length here + (5 * i + 4) = omega (arith, shown-five a (entriesRead n p)) in
-    rw (behind, getD-append-add here (modelNumbers n told ps) (5 * i + 4) 0) (entry-most n told ps i)
+    let first : Answer = withEntries a (entriesRead n p) in
+    let later : ℕ = answerLength * i + entriesPlace in
+    let behind : answerLength * suc i + entriesPlace ≡ length (numbers first) + later = omega (arith, numbers-length first) in
+    rw (behind, getD-append-add (numbers first) (modelNumbers n told ps) later 0) (entry-most n told ps i)
 
 -- ---- where opening isn't refused
 
@@ -77,8 +75,8 @@ module _ (bs : List ℕ) (t : Term) (ns : List ℕ) (sound : soundness (t .mode)
   unfolding modelAnswers
   answers-model = rw all-called (calls-numbers t bs readable (map callOf ns))
 
-  -- .. and the entries read stand in every fifth place
-  pub entries-full : (i : ℕ) → getD (modelAnswers bs t ns) (5 * i + 4) 0 ≤ t .count / 128
+  -- .. and the entries read stand at their place of each answer
+  pub entries-full : (i : ℕ) → getD (modelAnswers bs t ns) (answerLength * i + entriesPlace) 0 ≤ t .count / 128
   unfolding modelAnswers
   entries-full i =
       let docs : List ℕ = docsOf (reading t bs .blocks) in

@@ -14,25 +14,25 @@ use Rattle.format.proofs.Area.{putAt-append}
 use Rattle.segment_postings.specs.declared.Answer.the-variants.{At, Refused}
 use Rattle.segment_postings.specs.declared.Moved.{Moved}
 use Rattle.segment_postings.specs.Cursor.{opened}
-use Rattle.segment_postings.specs.Called.{callsFrom, numbers, allNumbers}
+use Rattle.segment_postings.specs.Called.{callsFrom, answerLength, entriesPlace, numbers, allNumbers}
 use Rattle.postings.specs.RunCalls.{callOf, allKnown, taken, unlessRefused, answered, howMany, answersAfter, modelAnswers, Runs}
-use Rattle.postings.proofs.calls.CodedCalls.{five-numbers, all-numbers, as-many-answers}
+use Rattle.postings.proofs.calls.CodedCalls.{numbers-length, all-numbers, as-many-answers}
 use Rattle.postings.proofs.calls.ModelAnswers.{all-answered, answers-model, entries-full}
 
 -- ---- what is taken
 
 module _ (ns out : List ℕ) where
-  no-room : length out / 5 ≤ length ns → taken ns out ≡ false
+  no-room : length out / answerLength ≤ length ns → taken ns out ≡ false
   unfolding taken
-  no-room h = rw (lt-leb (5 * (length ns + 1)) (length out) (omega arith))
+  no-room h = rw (lt-leb (answerLength * (length ns + 1)) (length out) (omega arith))
 
   unknown-kind : allKnown ns ≡ false → taken ns out ≡ false
   unfolding taken
   unknown-kind e = rw (e, and-false)
 
-  pub all-taken : length ns < length out / 5 → allKnown ns ≡ true → taken ns out ≡ true
+  pub all-taken : length ns < length out / answerLength → allKnown ns ≡ true → taken ns out ≡ true
   unfolding taken
-  all-taken h e = rw (le-leb (5 * (length ns + 1)) (length out) (omega arith), e)
+  all-taken h e = rw (le-leb (answerLength * (length ns + 1)) (length out) (omega arith), e)
 
 -- ---- a place of what is put first
 
@@ -50,13 +50,13 @@ module _ (bs : List ℕ) (t : Term) (ns out : List ℕ) where
     third-promise = λ so. absurd (let z : false ≡ true = sym e ∙ so in let y : _≡_ {A = ℕ} 0 1 = cc in omega arith);
   }
 
-  pub run-no-room : length out / 5 ≤ length ns → Runs bs t ns out out 0
+  pub run-no-room : length out / answerLength ≤ length ns → Runs bs t ns out out 0
   run-no-room h = not-run (no-room ns out h)
 
   pub run-unknown : allKnown ns ≡ false → Runs bs t ns out out 0
   run-unknown e = not-run (unknown-kind ns out e)
 
-  module _ (room : length ns < length out / 5) (known : allKnown ns ≡ true) where
+  module _ (room : length ns < length out / answerLength) (known : allKnown ns ≡ true) where
     -- what is answered is written
     run-answered : (r : ℕ) (out′ : List ℕ) → r ≡ length (answered bs t ns) → out′ ≡ putAt 0 (allNumbers (answered bs t ns)) out
         → Runs bs t ns out out′ r
@@ -66,13 +66,13 @@ module _ (bs : List ℕ) (t : Term) (ns out : List ℕ) where
       answers-after = rw (all-taken ns out room known) written;
       third-promise = λ _ sound requested.
           let model : out′ ≡ putAt 0 (modelAnswers bs t ns) out = written ∙ ap (λ (l : List ℕ). putAt 0 l out) (answers-model bs t ns sound requested) in
-          let size : length (modelAnswers bs t ns) ≡ 5 * (length ns + 1) =
-          ap length (sym (answers-model bs t ns sound requested)) ∙ all-numbers (answered bs t ns) ∙ ap (λ k. 5 * k) (all-answered bs t ns sound requested) in
+          let size : length (modelAnswers bs t ns) ≡ answerLength * (length ns + 1) =
+          ap length (sym (answers-model bs t ns sound requested)) ∙ all-numbers (answered bs t ns) ∙ ap (λ k. answerLength * k) (all-answered bs t ns sound requested) in
           record {
             all-answered = many ∙ all-answered bs t ns sound requested;
             model-answers = model;
             entries-most = λ i most.
-                rw (model, put-first (modelAnswers bs t ns) out (5 * i + 4) (omega arith) (omega arith)) (entries-full bs t ns sound requested i);
+                rw (model, put-first (modelAnswers bs t ns) out (answerLength * i + entriesPlace) (omega arith) (omega arith)) (entries-full bs t ns sound requested i);
           };
     }
 
@@ -94,17 +94,17 @@ module _ (bs : List ℕ) (t : Term) (ns out : List ℕ) where
 
       pub run-all : {doc freq unpacked entries : ℕ} → m .answer ≡ At doc freq unpacked entries
           → {out₁ out′ : List ℕ} → out₁ ≡ putAt 0 (numbers (m .answer)) out
-          → out′ ≡ putAt 5 (allNumbers (callsFrom bs t (m .cursor) (map callOf ns))) out₁
+          → out′ ≡ putAt answerLength (allNumbers (callsFrom bs t (m .cursor) (map callOf ns))) out₁
           → Runs bs t ns out out′ (length ns + 1)
       unfolding allNumbers
       run-all e {out′ = out′} first rest =
           let a : List ℕ = numbers (m .answer) in
           let b : List ℕ = allNumbers (callsFrom bs t (m .cursor) (map callOf ns)) in
-          let five : 0 + length a ≡ 5 = omega (arith, five-numbers (m .answer)) in
+          let behind : 0 + length a ≡ answerLength = omega (arith, numbers-length (m .answer)) in
           let many : length (callsFrom bs t (m .cursor) (map callOf ns)) ≡ length ns =
           as-many-answers bs t (m .cursor) (map callOf ns) ∙ length-map ns callOf in
           let room-there : 0 + length (a ++ b) ≤ length out =
           omega (arith, length-append a b, all-numbers (callsFrom bs t (m .cursor) (map callOf ns))) in
-          let joined : putAt 5 b (putAt 0 a out) ≡ putAt 0 (a ++ b) out =
-          ap (λ (p : ℕ). putAt p b (putAt 0 a out)) (sym five) ∙ putAt-append 0 a b out room-there in
-          run-answered (length ns + 1) out′ (rw (followed e) (omega arith)) (rw (followed e) (rest ∙ ap (λ (l : List ℕ). putAt 5 b l) first ∙ joined))
+          let joined : putAt answerLength b (putAt 0 a out) ≡ putAt 0 (a ++ b) out =
+          ap (λ (p : ℕ). putAt p b (putAt 0 a out)) (sym behind) ∙ putAt-append 0 a b out room-there in
+          run-answered (length ns + 1) out′ (rw (followed e) (omega arith)) (rw (followed e) (rest ∙ ap (λ (l : List ℕ). putAt answerLength b l) first ∙ joined))

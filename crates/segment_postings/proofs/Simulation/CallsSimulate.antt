@@ -28,7 +28,7 @@ use Rattle.segment_postings.specs.declared.Moved.{Moved}
 use Rattle.segment_postings.specs.declared.SegmentPostings.{SegmentPostings}
 use Rattle.segment_postings.specs.Cursor.{position, answerAt, moved, opened, stepping, advanced, docAt, freqAt, seeking, sought}
 use Rattle.segment_postings.specs.Called.{shown, called, callsFrom, calls, cursorAfter, Counts}
-use Rattle.segment_postings.specs.Called.{numbers, allNumbers, shownNumbers, positionsFrom, positions, modelNumbers}
+use Rattle.segment_postings.specs.Called.{numbers, allNumbers, withEntries, positionsFrom, positions, modelNumbers}
 use Rattle.segment_postings.proofs.Laws.CursorTurns.{moved-ok, opened-is}
 use Rattle.segment_postings.proofs.Simulation.HoldsBlock.{doc-holds, freq-holds}
 use Rattle.segment_postings.proofs.Simulation.StepSimulates.{Agrees, docs-count, entries-read, opening-agrees, answer-agrees, stepping-agrees}
@@ -196,22 +196,22 @@ calls-freq t bs sound cs =
 -- ---- the answers as numbers, entries read included
 
 -- what is answered where a call came to carries the cursor's entries
-answer-numbers : (t : Term) (c : SegmentPostings) → numbers (answerAt t c) ≡ shownNumbers (shown (answerAt t c)) (c .held .entries)
-unfolding answerAt numbers shown shownNumbers
+answer-numbers : (t : Term) (c : SegmentPostings) → numbers (answerAt t c) ≡ numbers (withEntries (shown (answerAt t c)) (c .held .entries))
+unfolding answerAt numbers shown withEntries
 answer-numbers t c =
-    choose-elim (λ (a : Answer). numbers a ≡ shownNumbers (shown a) (c .held .entries)) (eqb (position c) (t .count))
+    choose-elim (λ (a : Answer). numbers a ≡ numbers (withEntries (shown a) (c .held .entries))) (eqb (position c) (t .count))
     (λ _. At TERMINATED 0 (c .held .unpacked) (c .held .entries))
     (λ _. At (getD (c .docs) (c .held .place) 0) (getD (c .freqs) (c .held .place) 0) (c .held .unpacked) (c .held .entries))
     (λ _. refl) (λ _. refl)
 
 moved-numbers : (t : Term) (before : SegmentPostings) (o : Outcome SegmentPostings)
-    → numbers (moved t before o .answer) ≡ shownNumbers (shown (moved t before o .answer)) (moved t before o .cursor .held .entries)
-unfolding moved numbers shown shownNumbers
+    → numbers (moved t before o .answer) ≡ numbers (withEntries (shown (moved t before o .answer)) (moved t before o .cursor .held .entries))
+unfolding moved numbers shown withEntries
 moved-numbers t before (ok c) = answer-numbers t c
 moved-numbers t before (refused n) = refl
 
 called-numbers : (c : SegmentPostings) (bs : List ℕ) (t : Term) (call : Call)
-    → numbers (called c bs t call .answer) ≡ shownNumbers (shown (called c bs t call .answer)) (called c bs t call .cursor .held .entries)
+    → numbers (called c bs t call .answer) ≡ numbers (withEntries (shown (called c bs t call .answer)) (called c bs t call .cursor .held .entries))
 called-numbers c bs t step = rw called-step (moved-numbers t c (stepping c bs t))
 called-numbers c bs t (seek target) = rw called-seek (moved-numbers t c (seeking c bs t target))
 
@@ -220,7 +220,7 @@ unfolding allNumbers
 allNumbers-more a rest = refl
 
 modelNumbers-more : (n : ℕ) (a : model.Answer) (rest : List model.Answer) (p : ℕ) (ps : List ℕ)
-    → modelNumbers n (a ∷ rest) (p ∷ ps) ≡ shownNumbers a (entriesRead n p) ++ modelNumbers n rest ps
+    → modelNumbers n (a ∷ rest) (p ∷ ps) ≡ numbers (withEntries a (entriesRead n p)) ++ modelNumbers n rest ps
 unfolding modelNumbers
 modelNumbers-more n a rest p ps = refl
 
@@ -247,7 +247,7 @@ module _ {t : Term} {bs : List ℕ} (s : Sound t bs) where
   from-numbers {c} {m} k (call ∷ cs) =
       let p = call-shows s k call in
       rw (callsFrom-more, answersFrom-more, positionsFrom-more, allNumbers-more, modelNumbers-more)
-      (ap₂ _++_ (called-numbers c bs t call ∙ ap₂ shownNumbers (p .0) (entries-agree (p .1))) (from-numbers (p .1) cs))
+      (ap₂ _++_ (called-numbers c bs t call ∙ ap₂ (λ a e. numbers (withEntries a e)) (p .0) (entries-agree (p .1))) (from-numbers (p .1) cs))
 
 -- the numbers answered are the model's, and the entries read those that lead to the block of its position
 pub calls-numbers : (t : Term) (bs : List ℕ) → reading t bs .refusal ≡ 0 → (cs : List Call)
@@ -257,4 +257,4 @@ calls-numbers t bs sound cs =
     let s = sound-image t bs sound in
     let p = opening-agrees s in
     rw (calls-is, opened-is, p .2, moved-ok, answers-is, positions-is, allNumbers-more, modelNumbers-more)
-    (ap₂ _++_ (answer-numbers t (p .0) ∙ ap₂ shownNumbers (answer-agrees s (p .1)) (entries-agree s (p .1))) (from-numbers s (p .1) cs))
+    (ap₂ _++_ (answer-numbers t (p .0) ∙ ap₂ (λ a e. numbers (withEntries a e)) (answer-agrees s (p .1)) (entries-agree s (p .1))) (from-numbers s (p .1) cs))

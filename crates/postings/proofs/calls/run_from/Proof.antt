@@ -8,12 +8,13 @@ use borrow.Author.Needs.{needs}
 use lib.ListN.{length}
 use Rattle.format.specs.Basics.{putAt}
 use Rattle.format.proofs.Area.{length-putAt}
+use Rattle.segment_postings.specs.Called.{answerLength}
 use Rattle.postings.proofs.calls.CodedCalls.{numbersFrom, written-on, written-all}
 use Rattle.postings.proofs.calls.run_from.Statement.{statement}
 use Rattle.postings.proofs.calls.run_from.Tie as tie
 
 abbrev Inv-loop : tie.InvT-loop
-Inv-loop image term calls answers₀ moved₀ i₀ i-end answers moved i = (i ≤ length calls) × (length answers ≡ length answers₀) × (putAt 5 (numbersFrom image term calls 0 (moved₀ .cursor)) answers₀ ≡ putAt (5 * i + 5) (numbersFrom image term calls i (moved .cursor)) answers)
+Inv-loop image term calls answers₀ moved₀ i₀ i-end answers moved i = (i ≤ length calls) × (length answers ≡ length answers₀) × (putAt answerLength (numbersFrom image term calls 0 (moved₀ .cursor)) answers₀ ≡ putAt (answerLength * (i + 1)) (numbersFrom image term calls i (moved .cursor)) answers)
 
 abbrev μ-loop : tie.MeasureT-loop
 μ-loop image term calls answers₀ moved₀ i₀ i-end answers moved i = length calls - i
@@ -30,11 +31,11 @@ shared-slice-read-make-call c = omega arith
 make-call-requires : tie.Need-make-call-requires Inv-loop μ-loop
 make-call-requires c κs = search needs
 
-mul-put-answer : tie.Need-mul-put-answer Inv-loop μ-loop
-mul-put-answer c = omega arith
-
 add-put-answer : tie.Need-add-put-answer Inv-loop μ-loop
 add-put-answer c = omega arith
+
+mul-put-answer : tie.Need-mul-put-answer Inv-loop μ-loop
+mul-put-answer c = omega arith
 
 put-answer-requires : tie.Need-put-answer-requires Inv-loop μ-loop
 put-answer-requires c κs = omega arith
@@ -78,8 +79,8 @@ run-from-spec =
     mul-make-call
     shared-slice-read-make-call
     make-call-requires
-    mul-put-answer
     add-put-answer
+    mul-put-answer
     put-answer-requires
     add-i
     loop-less
