@@ -26,7 +26,7 @@ use Rattle.format.proofs.Accepted.{written-ok}
 use Rattle.format.proofs.Blocks.{docs-many}
 use Rattle.format.proofs.Requested.{sound-requested}
 use Rattle.format.proofs.Sound.{Sound, sound-image, sound-blocks, whole-count}
-use Rattle.format.proofs.Totals.{total-below}
+use Rattle.format.proofs.Totals.{total-below, total-unsound}
 use Rattle.serializer.specs.declared.Written.the-variants.{Bytes}
 use Rattle.serializer.specs.Writer.{listing}
 use Rattle.serializer.specs.Calls.{Listed}
@@ -113,6 +113,11 @@ module _ (mode count : ℕ) (bs : List ℕ) (target : ℕ) where
 
     pub total-too-large : {r : Value} → r ≡ valued (total mode count bs target) → valueNumbers r ≡ 10 ∷ 0 ∷ []
     total-too-large answers = told-refused answers (total-refused mode count bs target above)
+
+-- below 2147483647 `total` is exact: of an image that isn't admitted it is refused, under the number that `validate` answers
+pub unsound-total : (mode count : ℕ) (bs : List ℕ) {n : ℕ} → soundness mode count bs ≡ n → 0 < n
+    → {r : Value} → r ≡ valued (total mode count bs TERMINATED) → valueNumbers r ≡ n ∷ 0 ∷ []
+unsound-total mode count bs unsound some answers = told-refused answers (total-unsound mode count bs unsound some)
 
 -- ---- a whole list: `read` is lent an admitted image, and room in both slices
 
