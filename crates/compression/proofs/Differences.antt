@@ -9,9 +9,9 @@ use Prim.Native.Nat.{ℕ, zero, suc, _+_, _-_, _%_, _^_, _≤_, _<_}
 use native.Mathlib.Nat.{add-zero, zero-add, add-sub-cancel, zero-lt-suc}
 use native.Mathlib.Numerals.{add-one}
 use native.Mathlib.Omega.{arith}
-use lib.Dec.{leb, ltb, eqb}
+use lib.Dec.{leb, ltb}
 use lib.ListN.{length}
-use borrow.Author.Tests.{le-leb, lt-leb, lt-ltb, le-ltb, leb-true, ltb-true, ltb-false, ne-eqb}
+use borrow.Author.Tests.{le-leb, lt-leb, lt-ltb, leb-true, ltb-true, ltb-false, ne-eqb}
 use Rattle.format.specs.Basics.{choose, lastOf, TERMINATED}
 use Rattle.format.specs.Model.{member}
 use Rattle.format.specs.Values.{idsFrom, ids, restored, rising, reduction, origin}

@@ -3,7 +3,7 @@
 -- there, and one that was taken whole. That no value is 0 where the strict form and the width rule it out is shown here and nowhere else.
 -- Assumes nothing.
 use mathlib.Core.Path.{_≡_, refl, sym, ap, _∙_}
-use mathlib.Core.Bool.{Bool, true, false, false≢true, and-true, _&&_ as and, and-eq-true-iff}
+use mathlib.Core.Bool.{Bool, true, false, false≢true, and-true, _&&_ as and}
 use mathlib.Core.List.{List, _++_, map}
 use Prim.Native.Nat.{ℕ, _+_, _-_, _*_, _%_, _^_, _≤_, _<_}
 use native.Mathlib.Nat.{le-refl, le-of-eq, mod-lt, pow-le-pow-right}
@@ -11,7 +11,7 @@ use native.Mathlib.Omega.{arith}
 use lib.Dec.{eqb, ltb, lit<}
 use lib.ListN.{length, take, drop, replicate, length-append, length-drop, length-map, length-replicate, replicate-append-replicate, drop-of-length-le}
 use lib.Seq.{length-take-le, take-all, take-at, drop-at, drop-drop}
-use borrow.Author.Tests.{le-leb, lt-ltb, le-ltb, ltb-true, ne-eqb}
+use borrow.Author.Tests.{le-leb, lt-ltb, le-ltb, ne-eqb}
 use Rattle.format.specs.declared.Layout.{Layout}
 use Rattle.format.specs.declared.Next.the-variants.{At, Refused}
 use Rattle.format.specs.declared.Term.{Term}
@@ -32,7 +32,6 @@ use Rattle.compression.specs.Restored.{asDifferences}
 use Rattle.vint.specs.Numbers.{behind, filled}
 use Rattle.segment_postings.specs.declared.find.Found.{Found}
 use Rattle.segment_postings.specs.declared.load.Taken.{Taken}
-use Rattle.segment_postings.specs.Private.{FoundThere}
 use Rattle.segment_postings.specs.Taken.{fullTaken, tailTaken, askedFreqs, asked, FilledUp, ValuesTaken}
 use Rattle.segment_postings.proofs.load.BlockQuestions.{full-unread, full-read, asked-full, fullDifferences, fullDifferences-below}
 use Rattle.segment_postings.proofs.load.BlockQuestions.{length-fullDifferences, length-asDifferences, asDifferences-below}

@@ -8,7 +8,7 @@ use native.Mathlib.Numerals.{add-one}
 use native.Mathlib.Omega.{arith}
 use denote.Ref.{now}
 use lib.Dec.{eqb}
-use lib.ListN.{length, getD, take}
+use lib.ListN.{getD, take}
 use lib.Seq.{slice, slice-cons, slice-empty}
 use borrow.Author.Tests.{ne-eqb}
 use Rattle.format.specs.Model.{member}

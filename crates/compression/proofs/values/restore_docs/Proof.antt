@@ -3,7 +3,7 @@
 -- in order if the last lies below TERMINATED, and then each is whole in its place.
 -- Assumes nothing.
 use mathlib.Core.Path.{_≡_, refl, ap, _∙_, sym}
-use mathlib.Core.Bool.{Bool, true, false, false≢true}
+use mathlib.Core.Bool.{true, false, false≢true}
 use mathlib.Core.List.{List, [], _∷_, _++_}
 use mathlib.Core.Logic.{⊎-elim}
 use Prim.Native.Nat.{ℕ, zero, suc, _-_, _+_, _≤_, _<_, min}
@@ -15,11 +15,9 @@ use lib.ListN.{length, getD, take, drop, set, length-set}
 use lib.Seq.{length-take-le, drop-set-lt}
 use borrow.Author.Needs.{needs}
 use borrow.Author.Tests.{not-false}
-use Rattle.format.specs.Basics.{choose, lastOf, TERMINATED}
+use Rattle.format.specs.Basics.{choose, lastOf}
 use Rattle.format.specs.Model.{member}
 use Rattle.format.specs.Values.{idsFrom}
-use Rattle.compression.specs.declared.values.Restored.{Restored}
-use Rattle.compression.specs.declared.values.Restored.the-variants.{Rising, NotRising}
 use Rattle.compression.specs.Restored.{inOrder, idsBehind, inPlace, risen, ending, DocsRestored, Summed}
 use Rattle.compression.proofs.Differences.{plain-same, ids-first, behind-first, in-order-last, zero-out-of-order, ids-kept}
 use Rattle.compression.proofs.InPlace.{clamped}

@@ -2,7 +2,6 @@
 -- Assumes nothing.
 use mathlib.Core.Path.{sym, _∙_}
 use native.Mathlib.Omega.{arith}
-use Rattle.segment_postings.specs.Calls.{cursorOf}
 use Rattle.segment_postings.proofs.Laws.LandingParts.{answering-at, answering-nowhere}
 use Rattle.segment_postings.proofs.core.answer_at.Statement.{statement}
 use Rattle.segment_postings.proofs.core.answer_at.Tie as tie

@@ -3,7 +3,6 @@
 use mathlib.Core.Path.{sym, _∙_}
 use Rattle.format.specs.Basics.{choose}
 use Rattle.segment_postings.specs.Cursor.{answerAt}
-use Rattle.segment_postings.specs.Calls.{cursorOf}
 use borrow.Author.Needs.{needs}
 use Rattle.segment_postings.proofs.core.shown_at.Statement.{statement}
 use Rattle.segment_postings.proofs.core.shown_at.Tie as tie

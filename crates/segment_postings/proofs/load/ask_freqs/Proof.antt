@@ -1,15 +1,13 @@
 -- `segment_postings::load::ask_freqs` meets its contract: question 7 is answered by whether one is 0, which isn't asked where it is known.
 -- Assumes nothing.
 use mathlib.Core.Path.{_≡_, sym, _∙_}
-use mathlib.Core.Bool.{true, false}
-use mathlib.Core.List.{List}
+use mathlib.Core.Bool.{false}
 use mathlib.Core.Logic.{⊎-elim}
 use denote.Ref.{now}
 use lib.ListN.{take}
 use borrow.Author.Needs.{needs}
 use borrow.Author.Tests.{not-true, not-false}
 use Rattle.format.specs.Model.{member}
-use Rattle.segment_postings.specs.declared.load.Taken.{Taken}
 use Rattle.segment_postings.specs.Taken.{outcome}
 use Rattle.segment_postings.proofs.load.BlockQuestions.{freqs-broken, freqs-wrong, freqs-not-last, freqs-right}
 use Rattle.segment_postings.proofs.load.ask_freqs.Statement.{statement}

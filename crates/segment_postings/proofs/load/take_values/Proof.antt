@@ -1,7 +1,7 @@
 -- `segment_postings::load::take_values` meets its contract. Each way to a return is a case of `TakeValuesCases.antt`; the places of the ways
 -- give what that case asks.
 -- Assumes nothing.
-use mathlib.Core.Path.{_≡_, refl, sym, ap, _∙_}
+use mathlib.Core.Path.{_≡_, sym, ap, _∙_}
 use mathlib.Core.Bool.{Bool, true, false, false≢true, and-false, _&&_ as and}
 use mathlib.Core.List.{List, _++_, map}
 use mathlib.Core.Logic.{⊎-elim}

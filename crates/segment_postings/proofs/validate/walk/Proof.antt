@@ -3,7 +3,7 @@
 -- That of its frequencies: none passed is 0. A loop that is left from inside has come to the first question answered no.
 -- The measures are the blocks and the places left.
 -- Assumes nothing.
-use mathlib.Core.Path.{_≡_, refl, sym, ap, _∙_}
+use mathlib.Core.Path.{_≡_, sym, ap, _∙_}
 use mathlib.Core.Bool.{true, false}
 use mathlib.Core.List.{List, [], _∷_}
 use mathlib.Core.Logic.{⊎-elim}
