@@ -25,6 +25,12 @@ unfolding idsBehind
 length-idsBehind least [] = refl
 length-idsBehind least (d ∷ ds) = ap suc (length-idsBehind (least + d) ds)
 
+-- of some ids the last is the same, whatever stands before them
+pub last-any : (y z least : ℕ) (ds : List ℕ) → 0 < length ds → lastOf y (idsBehind least ds) ≡ lastOf z (idsBehind least ds)
+unfolding idsBehind lastOf
+last-any y z least [] h = absurd (omega arith)
+last-any y z least (d ∷ ds) h = refl
+
 -- ---- the differences of values
 
 -- what is known of differences that stand for values: question 6 is the same, and where it is passed the ids are

@@ -16,6 +16,7 @@ use Rattle.format.specs.Basics.{choose, lastOf, TERMINATED}
 use Rattle.format.specs.Model.{member}
 use Rattle.format.proofs.Choice.{choose-elim}
 use Rattle.compression.specs.Restored.{idsBehind, inOrder}
+use Rattle.compression.proofs.Differences.{last-any}
 use Rattle.segment_postings.specs.declared.load.Taken.{Taken}
 use Rattle.segment_postings.specs.Taken.{endsOn, endsBefore, freqsToAsk}
 
@@ -25,12 +26,6 @@ use Rattle.segment_postings.specs.Taken.{endsOn, endsBefore, freqsToAsk}
 pub record Ordered (least₀ least : ℕ) (vs rest : List ℕ) : Type 0 where
   pub same : inOrder least₀ vs ≡ inOrder least rest
   pub last : 0 < length vs → lastOf 0 (idsBehind least₀ vs) ≡ lastOf (least - 1) (idsBehind least rest)
-
--- of some ids the last is the same, whatever stands before them
-last-any : (y z least : ℕ) (vs : List ℕ) → 0 < length vs → lastOf y (idsBehind least vs) ≡ lastOf z (idsBehind least vs)
-unfolding idsBehind lastOf
-last-any y z least [] h = absurd (omega arith)
-last-any y z least (v ∷ vs) h = refl
 
 pub ordered-none : (least : ℕ) (vs : List ℕ) → Ordered least least vs vs
 ordered-none least vs = record { same = refl; last = last-any 0 (least - 1) least vs }

@@ -19,16 +19,10 @@ use Rattle.format.specs.Basics.{choose, lastOf}
 use Rattle.format.specs.Model.{member}
 use Rattle.format.specs.Values.{idsFrom}
 use Rattle.compression.specs.Restored.{inOrder, idsBehind, inPlace, risen, ending, DocsRestored, Summed}
-use Rattle.compression.proofs.Differences.{plain-same, ids-first, behind-first, in-order-last, zero-out-of-order, ids-kept}
+use Rattle.compression.proofs.Differences.{last-any, plain-same, ids-first, behind-first, in-order-last, zero-out-of-order, ids-kept}
 use Rattle.compression.proofs.InPlace.{clamped}
 use Rattle.compression.proofs.values.restore_docs.Statement.{statement}
 use Rattle.compression.proofs.values.restore_docs.Tie as tie
-
--- of some ids the last is the same, whatever stands before them
-last-any : (y z least : ℕ) (ds : List ℕ) → 0 < length ds → lastOf y (idsBehind least ds) ≡ lastOf z (idsBehind least ds)
-unfolding idsBehind lastOf
-last-any y z least [] h = absurd (omega arith)
-last-any y z least (d ∷ ds) h = refl
 
 -- the sums on top of the id before are the ids
 sums-behind : (least : ℕ) (ds : List ℕ) → 0 < least → idsFrom 0 (least - 1) ds ≡ idsBehind least ds
