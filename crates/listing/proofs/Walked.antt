@@ -2,7 +2,7 @@
 -- the model, so that each answer's line is the model's.
 -- Assumes nothing.
 use mathlib.Core.List.{List, [], _∷_, _++_, append-assoc, append-nil}
-use mathlib.Core.Path.{_≡_, refl, sym, ap, _∙_}
+use mathlib.Core.Path.{_≡_, refl, sym, _∙_}
 use Prim.Native.Nat.{ℕ, suc, _+_, _*_, _≤_}
 use native.Mathlib.Omega.{arith}
 use lib.ListN.{length, replicate}
@@ -10,12 +10,11 @@ use Rattle.format.specs.declared.Term.{Term}
 use Rattle.format.specs.Reading.{reading, docsOf, freqsOf}
 use Rattle.format.specs.Model.{Answer, step, State, after, here, answersFrom, answers}
 use Rattle.format.specs.Model as model
-use Rattle.format.proofs.Sound.{Sound, sound-image}
 use Rattle.segment_postings.specs.declared.SegmentPostings.{SegmentPostings}
-use Rattle.segment_postings.specs.Cursor.{answerAt, moved, blank, opened, advanced}
-use Rattle.segment_postings.specs.Called.{shown}
-use Rattle.segment_postings.proofs.Simulation.StepSimulates.{Agrees, docs-count, opening-agrees, answer-agrees, stepping-agrees}
-use Rattle.segment_postings.proofs.Laws.CursorTurns.{moved-ok, opened-is, advanced-is}
+use Rattle.segment_postings.specs.Cursor.{opened, advanced}
+use Rattle.segment_postings.specs.Called.{shown, called}
+use Rattle.segment_postings.proofs.Simulation.CallsSimulate.{Stands, Goes, shown-again, simulation}
+use Rattle.segment_postings.proofs.Simulation.StepSimulates.{docs-count}
 use Rattle.listing.specs.Output.{line, linesOf, steps, Puts}
 use Rattle.listing.proofs.Decimal.{line-most}
 use Rattle.listing.proofs.Putting.{puts-none, puts-length, puts-then}
@@ -59,66 +58,53 @@ module _ (t : Term) (bs : List ℕ) where
 
   -- `left` steps are left, and the text put so far, from place `start` on, ends at `next`
   pub record Walked (start left next : ℕ) (output₀ output : List ℕ) (c : SegmentPostings) : Type 0 where
-    pub sound : Sound t bs
     pub state : State
     pub text : List ℕ
-    pub agrees : Agrees sound c state
+    pub stands : Stands t bs c state
     pub to-come : text ++ linesOf (answersFrom docs freqs state (replicate left step)) ≡ all-steps
     pub puts : Puts text start output₀ output next
     pub room : next + 63 * left ≤ length output₀
 
   module _ (sound : reading t bs .refusal ≡ 0) where
-    opens : (c : SegmentPostings) × Agrees (sound-image t bs sound) c model.opened
-        × (opened bs t ≡ record { answer = answerAt t c; cursor = c })
-    opens =
-        let p = opening-agrees (sound-image t bs sound) in
-        (p .0, p .1, opened-is bs t ∙ ap (moved t blank) (p .2) ∙ moved-ok t blank (p .0))
-
     -- the line of opening, then those of the steps
     pub walk-first : line (shown (opened bs t .answer)) ++ all-steps ≡ steps docs freqs
     walk-first =
-        let s = sound-image t bs sound in
-        let p = opens in
-        rw (p .2, answer-agrees s (p .1)) (sym (steps-is docs freqs ∙ rw (docs-count s)))
+        let g = simulation t bs .opens sound in
+        rw (g .answer-is, shown-again) (sym (steps-is docs freqs ∙ rw (docs-count (g .stands .sound))))
 
     pub walk-begins : {left next : ℕ} {output : List ℕ} → left ≡ t .count → next + 63 * left ≤ length output
         → Walked next left next output output (opened bs t .cursor)
-    walk-begins {left} {next} {output} many room =
-        let p = opens in
-        rw (p .2)
-        (record {
-          sound = sound-image t bs sound;
-          state = model.opened;
-          text = [];
-          agrees = p .1;
-          to-come = rw many;
-          puts = puts-none next output (omega arith);
-          room = room;
-        })
+    walk-begins {left} {next} {output} many room = record {
+      state = model.opened;
+      text = [];
+      stands = simulation t bs .opens sound .stands;
+      to-come = rw many;
+      puts = puts-none next output (omega arith);
+      room = room;
+    }
 
   module _ {start left next : ℕ} {output₀ output : List ℕ} {c : SegmentPostings} (k : Walked start left next output₀ output c) where
     pub walk-room : length output ≡ length output₀
     walk-room = puts-length (k .puts)
 
+    steps-on : Goes t bs (advanced c bs t) (here docs freqs (after docs (k .state) step)) (after docs (k .state) step)
+    unfolding called model.answer
+    steps-on = simulation t bs .goes (k .stands) step
+
     pub walk-steps : (n : ℕ) {next′ : ℕ} {output′ : List ℕ} → left ≡ suc n
         → Puts (line (shown (advanced c bs t .answer))) next output output′ next′ → Walked start n next′ output₀ output′ (advanced c bs t .cursor)
     walk-steps n {next′} {output′} more puts =
-        let p = stepping-agrees (k .sound) (k .agrees) in
         let m : State = after docs (k .state) step in
-        let is : advanced c bs t ≡ record { answer = answerAt t (p .0); cursor = p .0 } =
-        advanced-is c bs t ∙ ap (moved t c) (p .2) ∙ moved-ok t c (p .0) in
-        let last : Puts (line (here docs freqs m)) next output output′ next′ = rw (← answer-agrees (k .sound) (p .1)) (rw is at puts) in
+        let last : Puts (line (here docs freqs m)) next output output′ next′ = rw (steps-on .answer-is, shown-again) at puts in
         let come = rw (more, answersFrom-step docs freqs (k .state) n, linesOf-more) at (k .to-come) in
-        rw is
-        (record {
-          sound = k .sound;
+        record {
           state = m;
           text = k .text ++ line (here docs freqs m);
-          agrees = p .1;
+          stands = steps-on .stands;
           to-come = rw append-assoc come;
           puts = puts-then (k .puts) last;
           room = omega (arith, last .behind, k .room, line-most (here docs freqs m));
-        })
+        }
 
     pub walk-ends : left ≡ 0 → Puts all-steps start output₀ output next
     walk-ends none =

@@ -6,7 +6,6 @@ use mathlib.Core.Path.{_≡_}
 use mathlib.Core.List.{List, [], _∷_, map}
 use Prim.Native.Nat.{ℕ, _+_, _*_, _^_, _<_}
 use Rattle.format.specs.declared.Term.{Term}
-use Rattle.format.specs.Basics.{Outcome}
 use Rattle.format.specs.Model.{Call, step, seek}
 use Rattle.segment_postings.specs.declared.Answer.{Answer}
 use Rattle.segment_postings.specs.declared.Answer.the-variants.{Refused}
@@ -14,9 +13,9 @@ use Rattle.segment_postings.specs.declared.Held.{Held}
 use Rattle.segment_postings.specs.declared.Moved.{Moved}
 use Rattle.segment_postings.specs.declared.Reached.the-variants as reached-as
 use Rattle.segment_postings.specs.declared.SegmentPostings.{SegmentPostings}
-use Rattle.segment_postings.specs.Cursor.{answering, blank, opening, opened, stepping, seeking}
+use Rattle.segment_postings.specs.Cursor.{answering, blank, opening, opened}
 use Rattle.segment_postings.specs.Calls.{Leaves, cursorOf, Reaches}
-use Rattle.segment_postings.specs.Called.{called}
+use Rattle.segment_postings.specs.Called.{reaching, called}
 
 -- how a call gets the cursor
 pub data Manner : Type 0 where
@@ -44,12 +43,6 @@ pub data Opened (bs : List ℕ) (t : Term) : Answer → SegmentPostings → Type
   unfilled : {docs freqs docs′ freqs′ : List ℕ} {n : ℕ}
       → Reaches (opening bs t) docs freqs docs′ freqs′ (reached-as.Refused n)
       → Opened bs t (Refused n) blank
-
--- where a call comes to, as the contracts of `advance_in` and `seek_in` say it
-unfoldable pub reaching : SegmentPostings → List ℕ → Term → Call → Outcome SegmentPostings
-unfolding stepping seeking
-reaching c bs t step = stepping c bs t
-reaching c bs t (seek target) = seeking c bs t target
 
 -- a call, its manner, the cursor that it gets, what it answered and the cursor after it
 pub data Meets (bs : List ℕ) (t : Term) (call : Call) : Manner → SegmentPostings → Answer → SegmentPostings → Type 0 where

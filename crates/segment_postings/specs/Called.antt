@@ -7,6 +7,7 @@ use mathlib.Core.Path.{_≡_}
 use Prim.Native.Nat.{ℕ, _-_}
 use lib.ListN.{length, replicate}
 use Rattle.format.specs.declared.Term.{Term}
+use Rattle.format.specs.Basics.{Outcome}
 use Rattle.format.specs.Model.{Answer as Shown, at, refused, Call, step, seek, State, after, entriesRead}
 use Rattle.format.specs.Model as model
 use Rattle.segment_postings.specs.declared.Answer.{Answer}
@@ -18,7 +19,7 @@ use Rattle.segment_postings.specs.declared.Reached.the-variants as reach
 use Rattle.segment_postings.specs.declared.SegmentPostings.{SegmentPostings}
 use Rattle.segment_postings.specs.declared.Value.{Value}
 use Rattle.segment_postings.specs.declared.Value.the-variants as value-as
-use Rattle.segment_postings.specs.Cursor.{position, answering, opened, advanced, sought}
+use Rattle.segment_postings.specs.Cursor.{position, answering, opened, stepping, advanced, seeking, sought}
 use Rattle.segment_postings.specs.Calls.{cursorOf}
 
 -- what the model says of an answer: document, frequency and blocks unpacked
@@ -31,6 +32,13 @@ unfoldable pub withEntries : Shown → ℕ → Answer
 withEntries (at doc freq unpacked) entries = At doc freq unpacked entries
 withEntries (refused n) entries = Refused n
 
+-- where a call comes to, as the contracts of `advance_in` and `seek_in` say it
+unfoldable pub reaching : SegmentPostings → List ℕ → Term → Call → Outcome SegmentPostings
+unfolding stepping seeking
+reaching c bs t step = stepping c bs t
+reaching c bs t (seek target) = seeking c bs t target
+
+-- .. and what it hands back, as those of `advance` and `seek` say it
 unfoldable pub called : SegmentPostings → List ℕ → Term → Call → Moved
 unfolding advanced sought
 called c bs t step = advanced c bs t

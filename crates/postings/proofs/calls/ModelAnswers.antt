@@ -2,7 +2,7 @@
 -- every call is made; each answers what the model answers, and the entries read lead to the block of the model's position, so that
 -- they are at most the full blocks.
 -- Assumes nothing.
-use mathlib.Core.Path.{_≡_, refl, ap}
+use mathlib.Core.Path.{_≡_, ap}
 use mathlib.Core.List.{List, [], _∷_, map}
 use Prim.Native.Nat.{ℕ, zero, suc, _+_, _*_, _/_, _≤_}
 use native.Mathlib.Omega.{arith}
@@ -10,15 +10,12 @@ use lib.ListN.{length, getD, List·getD-append, length-map}
 use lib.Seq.{getD-append-add}
 use Rattle.format.specs.declared.Term.{Term}
 use Rattle.format.specs.Reading.{reading, soundness, docsOf, freqsOf}
-use Rattle.format.specs.Model.{Answer as Shown, at, refused, Call, here, answersFrom, answers, entriesRead}
-use Rattle.format.specs.Model as model
+use Rattle.format.specs.Model.{Answer as Shown, at, refused, Call, here, answers, entriesRead}
 use Rattle.format.proofs.Requested.{sound-requested}
 use Rattle.segment_postings.specs.declared.Answer.{Answer}
-use Rattle.segment_postings.specs.declared.Answer.the-variants.{At, Refused}
 use Rattle.segment_postings.specs.Cursor.{opened}
-use Rattle.segment_postings.specs.Called.{shown, withEntries, callsFrom, calls, positions}
-use Rattle.segment_postings.specs.Called.{answerLength, entriesPlace, numbers, allNumbers, modelNumbers}
-use Rattle.segment_postings.proofs.Simulation.CallsSimulate.{calls-show, calls-numbers}
+use Rattle.segment_postings.specs.Called.{withEntries, calls, answerLength, entriesPlace, numbers, allNumbers, positions, modelNumbers}
+use Rattle.segment_postings.proofs.Simulation.CallsSimulate.{simulation}
 use Rattle.postings.specs.RunCalls.{callOf, unlessRefused, answered, modelAnswers}
 use Rattle.postings.proofs.calls.CodedCalls.{numbers-length, as-many-answers}
 
@@ -50,22 +47,17 @@ entry-most n (a ∷ told) (p ∷ ps) (suc i) =
 
 -- ---- where opening isn't refused
 
-not-refused : (a : Answer) {doc freq unpacked : ℕ} → shown a ≡ at doc freq unpacked → (rest : List Answer) → unlessRefused a rest ≡ rest
-unfolding shown unlessRefused
-not-refused (At doc freq unpacked entries) e rest = refl
-not-refused (Refused n) e rest = absurd (let z : _≡_ {A = ℕ} 0 1 = cc in omega arith)
-
 module _ (bs : List ℕ) (t : Term) (ns : List ℕ) (sound : soundness (t .mode) (t .count) bs ≡ 0) (known : t .requested ≤ 2) where
   readable : reading t bs .refusal ≡ 0
   readable = sound-requested (t .mode) (t .requested) (t .count) bs known sound
 
-  first-shown : shown (opened bs t .answer) ≡ here (docsOf (reading t bs .blocks)) (freqsOf (reading t bs .blocks)) model.opened
-  unfolding calls callsFrom answers answersFrom
-  first-shown = let e = calls-show t bs readable [] in cc
+  not-refused : (rest : List Answer) → unlessRefused (opened bs t .answer) rest ≡ rest
+  unfolding unlessRefused withEntries here
+  not-refused rest = rw (simulation t bs .opens readable .answer-is)
 
   all-called : answered bs t ns ≡ calls bs t (map callOf ns)
-  unfolding answered calls here
-  all-called = ap (λ (l : List Answer). opened bs t .answer ∷ l) (not-refused (opened bs t .answer) first-shown _)
+  unfolding answered calls
+  all-called = ap (λ (l : List Answer). opened bs t .answer ∷ l) (not-refused _)
 
   pub all-answered : length (answered bs t ns) ≡ length ns + 1
   unfolding calls
@@ -73,7 +65,7 @@ module _ (bs : List ℕ) (t : Term) (ns : List ℕ) (sound : soundness (t .mode)
 
   pub answers-model : allNumbers (answered bs t ns) ≡ modelAnswers bs t ns
   unfolding modelAnswers
-  answers-model = rw all-called (calls-numbers t bs readable (map callOf ns))
+  answers-model = rw all-called (simulation t bs .opens-and-goes-on readable (map callOf ns) .numbered)
 
   -- .. and the entries read stand at their place of each answer
   pub entries-full : (i : ℕ) → getD (modelAnswers bs t ns) (answerLength * i + entriesPlace) 0 ≤ t .count / 128

@@ -19,7 +19,7 @@ use Rattle.format.proofs.Sound.{Sound, sound-blocks, whole-count}
 use Rattle.format.proofs.Visited.{Tracked, blockOf, opened-tracked, after-tracked, after-grown, step-goes}
 use Rattle.segment_postings.specs.declared.SegmentPostings.{SegmentPostings}
 use Rattle.segment_postings.specs.Cursor.{position, answerAt, opening, stepping}
-use Rattle.segment_postings.specs.Called.{shown}
+use Rattle.segment_postings.specs.Called.{withEntries}
 use Rattle.segment_postings.proofs.Simulation.HoldsBlock.{Holds, MovesTo, opening-landed, landed-there, stepping-steps, answer-holds}
 
 pub record Agrees {t : Term} {bs : List ℕ} (s : Sound t bs) (c : SegmentPostings) (m : State) : Type 0 where
@@ -43,7 +43,7 @@ module _ {t : Term} {bs : List ℕ} (s : Sound t bs) where
   unfolding position
   block-of k = omega (arith, k .place-most)
 
-  pub entries-read : {c : SegmentPostings} → Holds s c → c .held .entries ≡ entriesRead (t .count) (position c)
+  entries-read : {c : SegmentPostings} → Holds s c → c .held .entries ≡ entriesRead (t .count) (position c)
   unfolding entriesRead fullBlocks
   entries-read k = k .entries-are ∙ ap (λ b. min (t .count / 128) (b + 1)) (sym (block-of k))
 
@@ -62,9 +62,13 @@ module _ {t : Term} {bs : List ℕ} (s : Sound t bs) where
       )
 
   module _ {c : SegmentPostings} {m : State} (k : Agrees s c m) where
-    pub answer-agrees : shown (answerAt t c) ≡ here docs freqs m
-    unfolding shown here
-    answer-agrees = rw (answer-holds s (k .holds), k .same-position, k .same-count)
+    pub entries-agree : c .held .entries ≡ entriesRead (t .count) (m .position)
+    entries-agree = rw (← k .same-position) (entries-read (k .holds))
+
+    -- the answer is the model's, with the entries that lead to the block of its position
+    pub answer-agrees : answerAt t c ≡ withEntries (here docs freqs m) (entriesRead (t .count) (m .position))
+    unfolding withEntries here
+    answer-agrees = rw (answer-holds s (k .holds), k .same-position, k .same-count, entries-agree)
 
     -- a call that goes where the model's goes
     pub moves-agree : (call : Call) {p : ℕ} {c′ : SegmentPostings} → MovesTo s p c c′ → after docs m call .position ≡ p
