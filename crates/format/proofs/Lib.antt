@@ -11,6 +11,7 @@ pub mod Gaps
 pub mod IdsBelow
 pub mod ImageLayout
 pub mod ImageParts
+pub mod Kept
 pub mod Lanes
 pub mod Lists
 pub mod LooksAt

@@ -3,7 +3,7 @@
 -- there, and one that was taken whole. That no value is 0 where the strict form and the width rule it out is shown here and nowhere else.
 -- Assumes nothing.
 use mathlib.Core.Path.{_≡_, refl, sym, ap, _∙_}
-use mathlib.Core.Bool.{Bool, true, false, false≢true, and-true, _&&_ as and}
+use mathlib.Core.Bool.{Bool, true, false, false≢true, _&&_ as and}
 use mathlib.Core.List.{List, _++_, map}
 use Prim.Native.Nat.{ℕ, _+_, _-_, _*_, _%_, _^_, _≤_, _<_}
 use native.Mathlib.Nat.{le-refl, le-of-eq, mod-lt, pow-le-pow-right}
@@ -11,7 +11,7 @@ use native.Mathlib.Omega.{arith}
 use lib.Dec.{eqb, ltb, lit<}
 use lib.ListN.{length, take, drop, replicate, length-append, length-drop, length-map, length-replicate, replicate-append-replicate, drop-of-length-le}
 use lib.Seq.{length-take-le, take-all, take-at, drop-at, drop-drop}
-use borrow.Author.Tests.{le-leb, lt-ltb, le-ltb, ne-eqb}
+use borrow.Author.Tests.{le-leb, lt-ltb, le-ltb}
 use Rattle.format.specs.declared.Layout.{Layout}
 use Rattle.format.specs.declared.Next.the-variants.{At, Refused}
 use Rattle.format.specs.declared.Term.{Term}
@@ -24,6 +24,7 @@ use Rattle.format.specs.Vint.{Numbers, tailNumbers}
 use Rattle.format.specs.Layout.{fullBlocks, tailLength}
 use Rattle.format.specs.Reading.{fullFreqs, keepsFreqs, keptBy, tailFreqs, tailHasFreq, tailBlock}
 use Rattle.format.proofs.Bitpacking.{unpack-length, unpack-below}
+use Rattle.format.proofs.Kept.{kept-full}
 use Rattle.format.proofs.Lists.{allBelow-le}
 use Rattle.format.proofs.Vints.{numbers-used}
 use Rattle.bitpacking.specs.Packed.{Unpacked, withMore}
@@ -86,11 +87,6 @@ replaced-front n xs {ids = ids} i many few = record {
   back = drop-at xs (drop n ids) n many ∙ i .back;
   kept = rw (length-append, length-drop) (omega (arith, i .kept));
 }
-
--- where there is a full block the layout says whether frequencies are kept
-kept-full : (t : Term) (l : Layout) (bs : List ℕ) → 0 < fullBlocks t → keptBy t l bs ≡ hasFreq (l .option)
-unfolding keptBy keepsFreqs
-kept-full t l bs some = rw (ne-eqb (fullBlocks t) 0 (omega arith)) (and-true (hasFreq (l .option)))
 
 -- a tail's documents
 module _ (t : Term) where

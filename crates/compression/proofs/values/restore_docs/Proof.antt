@@ -2,7 +2,7 @@
 -- ids: behind an id they are the sums of the differences on top of it, and a list's first id is one less than its difference. They are
 -- in order if the last lies below TERMINATED, and then each is whole in its place.
 -- Assumes nothing.
-use mathlib.Core.Path.{_≡_, refl, ap, _∙_, sym}
+use mathlib.Core.Path.{_≡_, ap, _∙_, sym}
 use mathlib.Core.Bool.{true, false, false≢true}
 use mathlib.Core.List.{List, [], _∷_, _++_}
 use mathlib.Core.Logic.{⊎-elim}
