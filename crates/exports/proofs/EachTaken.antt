@@ -7,19 +7,23 @@ use mathlib.Core.Path.{_≡_, sym, ap, subst, _∙_}
 use Prim.Native.Nat.{ℕ, _+_, _≤_, _<_, _^_}
 use native.Mathlib.Numerals.{add-one}
 use native.Mathlib.Omega.{arith}
-use lib.ListN.{length, getD, drop}
+use lib.ListN.{length, getD, drop, replicate}
 use lib.Seq.{drop-cons, drop-length}
-use Rattle.format.specs.Basics.{Outcome, ok, refused, andThen, orBefore, AllBelow}
-use Rattle.format.specs.Accepted.{written}
-use Rattle.format.proofs.Accepted.{written-ok}
-use Rattle.format.proofs.Outcome.{ok-same, andThen-ok}
-use Rattle.serializer.specs.declared.ClosedTerm.{ClosedTerm}
+use Rattle.format.specs.Basics.{Outcome, ok, refused, andThen, ask, orBefore, AllBelow}
+use Rattle.format.specs.Accepted.{keptIn, begin, written}
+use Rattle.format.proofs.Accepted.{known-mode, written-ok}
+use Rattle.format.proofs.Outcome.{refused≢ok, ok-same, andThen-ok}
+use Rattle.serializer.specs.declared.ClosedIn.{ClosedIn}
 use Rattle.serializer.specs.declared.PostingsSerializer.{PostingsSerializer}
-use Rattle.serializer.specs.declared.Step.{Step}
+use Rattle.serializer.specs.declared.Progress.{Progress}
+use Rattle.serializer.specs.declared.Progressed.{Progressed}
+use Rattle.serializer.specs.declared.Progressed.the-variants as progressed-as
 use Rattle.serializer.specs.declared.Written.the-variants.{Refused}
 use Rattle.serializer.specs.Writer.{Areas, fresh, taking, takeAll, listing, announcing}
-use Rattle.serializer.specs.Calls.{answered, Took, Closed, ListedAs}
+use Rattle.serializer.specs.Calls.{answered, progressOf, progressed, stateOf, TookIn, ClosedFrom, ListedAs}
 use Rattle.serializer.specs.Lists.{HasRoom, WritesList}
+use Rattle.serializer.proofs.Laws.AnswerTells.{progressed-at, progressed-refused}
+use Rattle.serializer.proofs.Laws.ByValue.{settled-at}
 use Rattle.serializer.proofs.Laws.WholeList.{whole-list-writes, announced-writes}
 use Rattle.serializer.proofs.SingleCalls.AllDocuments.{takeAll-cons}
 use Rattle.serializer.proofs.SingleCalls.WritesList.{single-calls-write}
@@ -38,15 +42,33 @@ module _ (ds fs : List ℕ) (same : length ds ≡ length fs) (i : ℕ) (s : Post
       → onFrom ds fs i (areasOf s skips postings) ≡ andThen (taking s (getD ds i 0) (getD fs i 0) skips postings) (λ a. onFrom ds fs (i + 1) a)
   turn below = rw (drop-cons ds i 0 below, drop-cons fs i 0 (omega arith), takeAll-cons, add-one)
 
-  pub takes-on : {a : Areas} → onFrom ds fs i (areasOf s skips postings) ≡ ok a → i < length ds → {skips′ postings′ : List ℕ} {r : Step}
-      → Took s (getD ds i 0) (getD fs i 0) skips postings skips′ postings′ r → onFrom ds fs (i + 1) (areasOf (r .state) skips′ postings′) ≡ ok a
-  takes-on {a} e below t =
-      let p = andThen-ok _ (λ (k : Areas). onFrom ds fs (i + 1) k) (sym (turn below) ∙ e) in
-      subst (λ (k : Areas). onFrom ds fs (i + 1) k ≡ ok a) (sym (settled-ok t (p .1) .1)) (p .2)
+  module _ {a : Areas} (e : onFrom ds fs i (areasOf s skips postings) ≡ ok a) (below : i < length ds)
+      {docs′ freqs′ skips′ postings′ : List ℕ} {r : Progressed}
+      (t : TookIn s (getD ds i 0) (getD fs i 0) skips postings docs′ freqs′ skips′ postings′ r) where
+    pub takes-on : {p : Progress} → r ≡ progressed-as.At p → onFrom ds fs (i + 1) (areasOf (stateOf p docs′ freqs′) skips′ postings′) ≡ ok a
+    takes-on told =
+        let p = andThen-ok _ (λ (k : Areas). onFrom ds fs (i + 1) k) (sym (turn below) ∙ e) in
+        subst (λ (k : Areas). onFrom ds fs (i + 1) k ≡ ok a) (sym (settled-ok (settled-at t s told) (p .1) .1)) (p .2)
+
+    -- none is refused
+    pub takes-all : {n : ℕ} → r ≡ progressed-as.Refused n → ⊥
+    takes-all told =
+        let p = andThen-ok _ (λ (k : Areas). onFrom ds fs (i + 1) k) (sym (turn below) ∙ e) in
+        refused≢ok (sym (progressed-refused (λ (k : Areas). k .state) _ (t .answer) told) ∙ p .1)
 
   pub takes-end : i ≡ length ds → onFrom ds fs i (areasOf s skips postings) ≡ ok (areasOf s skips postings)
   unfolding takeAll
   takes-end all = rw (all, drop-length)
+
+-- ---- a term that is begun, with two arrays of zeros
+
+pub begun-fresh : (mode : ℕ) (recording : Bool) {r : Progressed} {p : Progress}
+    → r ≡ progressed (λ _. fresh mode recording) (begin mode recording) → r ≡ progressed-as.At p
+    → stateOf p (replicate 128 0) (replicate 128 0) ≡ fresh mode recording
+unfolding stateOf progressOf fresh
+begun-fresh mode recording e told =
+    let k = progressed-at (λ _. fresh mode recording) (begin mode recording) e told in
+    ap (λ (p : Progress). stateOf p (replicate 128 0) (replicate 128 0)) (k .2)
 
 -- ---- a list whose questions were all answered yes
 
@@ -61,25 +83,37 @@ module _ (mode : ℕ) (recording : Bool) (announced : ℕ) (ds fs skips postings
   writes : WritesList mode recording ds fs skips postings image
   writes = single-calls-write mode recording ds fs skips postings small (listed .0) (listed .1 .skips-fit) (listed .1 .postings-fit)
 
-  -- every document is taken
-  pub term-takes : (length ds ≡ length fs) × ((a : Areas) × (takeAll (fresh mode recording) ds fs skips postings ≡ ok a))
-  term-takes = (written-ok mode recording ds fs small (listed .0) .accepted .as-many, (writes .areas, writes .takes))
+  -- question 1 among them
+  pub term-begins : {r : Progressed} {n : ℕ} → r ≡ progressed (λ _. fresh mode recording) (begin mode recording) → r ≡ progressed-as.Refused n → ⊥
+  unfolding begin ask
+  term-begins told refusal =
+      let known = known-mode mode (written-ok mode recording ds fs small (listed .0) .mode-known) in
+      let yes : begin mode recording ≡ ok (keptIn mode recording) = rw known in
+      refused≢ok (sym (progressed-refused (λ _. fresh mode recording) (begin mode recording) told refusal) ∙ yes)
 
-  -- and closing leaves what the list leaves
-  pub term-left : {held : PostingsSerializer} {skips′ postings′ output′ : List ℕ} {r : ClosedTerm}
-      → takeAll (fresh mode recording) ds fs skips postings ≡ ok (areasOf held skips′ postings′)
-      → Closed held announced skips′ postings′ output output′ r
-      → ListedAs mode recording announced ds fs skips postings output skips′ postings′ output′ (r .answer)
-  unfolding answered orBefore
-  term-left takes closed =
-      let same = ok-same (sym takes ∙ writes .takes) in
-      let closing-is = rw (sym own-count, sym same) at (writes .closes output (listed .1 .output-fit)) in
-      record {
-        answer = closed .answer ∙ rw (closing-is, e);
-        skips-after = ap (λ (a : Areas). a .skips) same ∙ writes .skips-after ∙ rw e;
-        postings-after = ap (λ (a : Areas). a .postings) same ∙ writes .postings-after ∙ rw e;
-        output-after = closed .output-after ∙ rw (closing-is, e);
-      }
+  module _ {first : PostingsSerializer} (new : first ≡ fresh mode recording) where
+    from-first : takeAll first ds fs skips postings ≡ ok (writes .areas)
+    from-first = rw new (writes .takes)
+
+    -- every document is taken
+    pub term-takes : (length ds ≡ length fs) × ((a : Areas) × (takeAll first ds fs skips postings ≡ ok a))
+    term-takes = (written-ok mode recording ds fs small (listed .0) .accepted .as-many, (writes .areas, from-first))
+
+    -- and closing leaves what the list leaves
+    pub term-left : {held : PostingsSerializer} {skips′ postings′ output′ : List ℕ} {r : ClosedIn}
+        → takeAll first ds fs skips postings ≡ ok (areasOf held skips′ postings′)
+        → ClosedFrom held announced skips′ postings′ output output′ r
+        → ListedAs mode recording announced ds fs skips postings output skips′ postings′ output′ (r .answer)
+    unfolding answered orBefore
+    term-left takes closed =
+        let same = ok-same (sym takes ∙ from-first) in
+        let closing-is = rw (sym own-count, sym same) at (writes .closes output (listed .1 .output-fit)) in
+        record {
+          answer = closed .answer ∙ rw (closing-is, e);
+          skips-after = ap (λ (a : Areas). a .skips) same ∙ writes .skips-after ∙ rw e;
+          postings-after = ap (λ (a : Areas). a .postings) same ∙ writes .postings-after ∙ rw e;
+          output-after = closed .output-after ∙ rw (closing-is, e);
+        }
 
 -- ---- one that is refused
 

@@ -5,18 +5,20 @@ mod mark;
 mod reading;
 
 use crate::mark::mark;
+use format::UNKNOWN_MODE;
 use serializer::Accepted;
-use serializer::PostingsSerializer;
+use serializer::Progress;
+use serializer::Progressed;
 use serializer::Written;
 use serializer::ask_list;
-use serializer::close_term;
-use serializer::new_term;
-use serializer::write_doc;
+use serializer::close_term_in;
+use serializer::new_term_in;
+use serializer::write_doc_in;
 use serializer::write_list;
 ghost use mathlib.Core.Path.{_≡_};
 ghost use lib.ListN.{length};
 ghost use Rattle.serializer.specs.Writer.{Areas};
-ghost use Rattle.serializer.specs.Calls.{ListedAs};
+ghost use Rattle.serializer.specs.Calls.{stateOf, ListedAs};
 ghost use Rattle.exports.specs.Exports.{coded, ListCoded, DocsCoded, Takes, Announced};
 
 // A number of bytes as it is, and a refusal with its mark.
@@ -46,25 +48,38 @@ pub extern "C" fn vilthorwy_write_list(
     code(write_list(mode, recording != 0, ids, freqs, skips, postings, output))
 }
 
-// Hands the documents in one by one, each of which is taken; the state behind them.
+// Hands the documents in one by one, each of which is taken; the numbers behind them. Those that wait for their block stay in two arrays.
 fn write_each(
-    state: PostingsSerializer,
+    first: Progress,
     ids: &[u32],
     freqs: &[u32],
+    block_docs: &mut [u32; 128],
+    block_freqs: &mut [u32; 128],
     skips: &mut [u8],
     postings: &mut [u8],
-) -> PostingsSerializer
+) -> Progress
     requires { ⌜ (length (now ids) ≡ length (now freqs))
-        × ((a : Areas) × Takes state (now ids) (now freqs) (now skips) (now postings) a) ⌝ }
-    ensures { λ r. ⌜ Takes state (now (ids .entry)) (now (freqs .entry)) (now (skips .entry)) (now (postings .entry))
-        (record { state = r; skips = now (skips .exit); postings = now (postings .exit) }) ⌝ }
+        × ((a : Areas) × Takes (stateOf first (now «block_docs») (now «block_freqs»)) (now ids) (now freqs) (now skips) (now postings) a) ⌝ }
+    ensures { λ r. ⌜ Takes (stateOf first (now («block_docs» .entry)) (now («block_freqs» .entry))) (now (ids .entry)) (now (freqs .entry))
+        (now (skips .entry)) (now (postings .entry))
+        (record { state = stateOf r (now («block_docs» .exit)) (now («block_freqs» .exit)); skips = now (skips .exit); postings = now (postings .exit) }) ⌝ }
 {
-    let mut held = state;
+    let mut progress = first;
     for i in 0..ids.len() {
-        let step = write_doc(held, ids[i], freqs[i], skips, postings);
-        held = step.state;
+        match write_doc_in(
+            progress,
+            ids[i],
+            freqs[i],
+            block_docs,
+            block_freqs,
+            skips,
+            postings,
+        ) {
+            Progressed::At(next) => progress = next,
+            Progressed::Refused(_) => return progress,
+        }
     }
-    held
+    progress
 }
 
 // Writes a list whose questions were all answered yes: a term is begun, each document written, and the term closed.
@@ -79,13 +94,32 @@ fn write_term(
     output: &mut [u8],
 ) -> Written
     requires { ⌜ Announced mode recording announced (now ids) (now freqs) (now skips) (now postings) (now output) ⌝ }
-    ensures { λ r. ⌜ ListedAs mode recording announced (now (ids .entry)) (now (freqs .entry))
-        (now (skips .entry)) (now (postings .entry)) (now (output .entry))
-        (now (skips .exit)) (now (postings .exit)) (now (output .exit)) r ⌝ }
+    ensures { λ r. ⌜ ListedAs mode recording announced (now (ids .entry)) (now (freqs .entry)) (now (skips .entry)) (now (postings .entry))
+        (now (output .entry)) (now (skips .exit)) (now (postings .exit)) (now (output .exit)) r ⌝ }
 {
-    let begun = new_term(mode, recording);
-    let held = write_each(begun.state, ids, freqs, skips, postings);
-    let closed = close_term(held, announced, skips, postings, output);
+    let Progressed::At(first) = new_term_in(mode, recording) else {
+        return Written::Refused(UNKNOWN_MODE);
+    };
+    let mut block_docs = [0u32; 128];
+    let mut block_freqs = [0u32; 128];
+    let progress = write_each(
+        first,
+        ids,
+        freqs,
+        &mut block_docs,
+        &mut block_freqs,
+        skips,
+        postings,
+    );
+    let closed = close_term_in(
+        progress,
+        announced,
+        &block_docs,
+        &block_freqs,
+        skips,
+        postings,
+        output,
+    );
     closed.answer
 }
 

@@ -13,6 +13,7 @@ use crate::reading::walk_arrays;
 use crate::reading::walk_lent;
 use crate::telling::tell;
 use crate::writing::write_each;
+use crate::writing::write_on_arrays;
 use crate::writing::write_whole;
 use postings::Term;
 
@@ -44,6 +45,7 @@ fn main() {
     // Room for any list of three documents: 10 bytes each.
     let mut output = [0u8; 30];
     write_each(&mut output);
+    write_on_arrays(&mut output);
     let n = write_whole(&mut output);
     tell(b"bytes", n as u64);
     read_each(&output, n);

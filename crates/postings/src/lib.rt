@@ -23,6 +23,14 @@
 //     let accepted = step.answer;
 //     match accepted { Accepted::Yes => .., Accepted::Refused(why) => .. }
 //
+// Loops over many documents copy no state where they hold its arrays themselves, and its numbers beside them:
+//
+//     let mut docs = [0u32; 128];
+//     let mut freqs = [0u32; 128];
+//     match new_term_in(1, true) { Progressed::At(progress) => .., Progressed::Refused(why) => .. }
+//     match write_doc_in(progress, 3, 1, &mut docs, &mut freqs, &mut skips, &mut postings) { Progressed::At(progress) => .., Progressed::Refused(why) => .. }
+//     let closed = close_term_in(progress, 1, &docs, &freqs, &skips, &postings, &mut output);
+//
 // Or the whole list at once, which refuses before it writes a byte; `ask_list` asks the same under an announced count and writes none:
 //
 //     match write_list(1, true, &ids, &freqs, &mut skips, &mut postings, &mut output) { Written::Bytes(n) => .., Written::Refused(why) => .. }
@@ -118,12 +126,18 @@ pub use segment_postings::term_freq;
 pub use segment_postings::total;
 pub use segment_postings::validate::validate;
 pub use serializer::Accepted;
+pub use serializer::ClosedIn;
 pub use serializer::ClosedTerm;
 pub use serializer::PostingsSerializer;
+pub use serializer::Progress;
+pub use serializer::Progressed;
 pub use serializer::Step;
 pub use serializer::Written;
 pub use serializer::ask_list;
 pub use serializer::close_term;
+pub use serializer::close_term_in;
 pub use serializer::new_term;
+pub use serializer::new_term_in;
 pub use serializer::write_doc;
+pub use serializer::write_doc_in;
 pub use serializer::write_list;

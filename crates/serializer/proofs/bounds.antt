@@ -1,1 +1,2 @@
 pub mod Question16
+pub mod Waiting

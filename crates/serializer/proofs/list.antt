@@ -2,4 +2,3 @@ pub mod AreasLoop
 pub mod Blocks
 pub mod CheckLoop
 pub mod ListCases
-pub mod QuestionTurns

@@ -12,7 +12,11 @@ use Rattle.format.specs.Accepted.{keptIn, begin}
 use Rattle.serializer.specs.declared.PostingsSerializer.{PostingsSerializer}
 use Rattle.serializer.specs.declared.Accepted.{Accepted}
 use Rattle.serializer.specs.declared.Accepted.the-variants.{Yes, Refused as No}
+use Rattle.serializer.specs.declared.ClosedIn.{ClosedIn}
 use Rattle.serializer.specs.declared.ClosedTerm.{ClosedTerm}
+use Rattle.serializer.specs.declared.Progress.{Progress}
+use Rattle.serializer.specs.declared.Progressed.{Progressed}
+use Rattle.serializer.specs.declared.Progressed.the-variants as progressed-as
 use Rattle.serializer.specs.declared.Step.{Step}
 use Rattle.serializer.specs.declared.Written.{Written}
 use Rattle.serializer.specs.declared.Written.the-variants.{Bytes, Refused}
@@ -59,6 +63,59 @@ pub record Closed (s : PostingsSerializer) (announced : ℕ) (skips postings out
   pub answer : r .answer ≡ answered length (closing s announced skips postings output)
   pub state : r .state ≡ orBefore (λ _. fresh (s .mode) (s .recording)) (closing s announced skips postings output) s
   pub output-after : output′ ≡ orBefore (λ image. putAt 0 image output) (closing s announced skips postings output) output
+
+-- ---- the state in parts: its numbers, and two arrays in which documents and frequencies wait
+
+unfoldable pub stateOf : Progress → List ℕ → List ℕ → PostingsSerializer
+stateOf p docs freqs = record {
+  docs = docs;
+  freqs = freqs;
+  mode = p .mode;
+  recording = p .recording;
+  waiting = p .waiting;
+  «last_doc» = p .«last_doc»;
+  taken = p .taken;
+  «skips_at» = p .«skips_at»;
+  «postings_at» = p .«postings_at»;
+}
+
+unfoldable pub progressOf : PostingsSerializer → Progress
+progressOf s = record {
+  mode = s .mode;
+  recording = s .recording;
+  waiting = s .waiting;
+  «last_doc» = s .«last_doc»;
+  taken = s .taken;
+  «skips_at» = s .«skips_at»;
+  «postings_at» = s .«postings_at»;
+}
+
+-- what an outcome answers, given the state that a good one has
+unfoldable pub progressed : {A : Type 0} → (A → PostingsSerializer) → Outcome A → Progressed
+unfolding progressOf
+progressed state (ok a) = progressed-as.At (progressOf (state a))
+progressed state (refused n) = progressed-as.Refused n
+
+-- what a call on two lent arrays that may write into the areas answers and leaves; a refusal leaves all as it was
+pub record SettledIn (o : Outcome Areas) (docs freqs skips postings docs′ freqs′ skips′ postings′ : List ℕ) (r : Progressed) : Type 0 where
+  pub answer : r ≡ progressed (λ a. a .state) o
+  pub docs-after : docs′ ≡ orBefore (λ a. a .state .docs) o docs
+  pub freqs-after : freqs′ ≡ orBefore (λ a. a .state .freqs) o freqs
+  pub skips-after : skips′ ≡ orBefore (λ a. a .skips) o skips
+  pub postings-after : postings′ ≡ orBefore (λ a. a .postings) o postings
+
+-- one document more
+abbrev pub TookIn : PostingsSerializer → ℕ → ℕ → (skips postings docs′ freqs′ skips′ postings′ : List ℕ) → Progressed → Type 0
+TookIn s d f skips postings docs′ freqs′ skips′ postings′ r =
+    SettledIn (taking s d f skips postings) (s .docs) (s .freqs) skips postings docs′ freqs′ skips′ postings′ r
+
+-- closing: the image at the output's front, and the numbers of a fresh state
+pub record ClosedFrom (s : PostingsSerializer) (announced : ℕ) (skips postings output output′ : List ℕ) (r : ClosedIn) : Type 0 where
+  pub answer : r .answer ≡ answered length (closing s announced skips postings output)
+  pub progress : r .progress ≡ progressOf (orBefore (λ _. fresh (s .mode) (s .recording)) (closing s announced skips postings output) s)
+  pub output-after : output′ ≡ orBefore (λ image. putAt 0 image output) (closing s announced skips postings output) output
+
+-- ---- a whole list
 
 -- what a whole list answers and leaves, by its outcome: the image at the output's front, the full blocks and their entries at the fronts
 -- of the areas; a refusal leaves all as it was

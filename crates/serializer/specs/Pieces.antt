@@ -1,8 +1,8 @@
 -- What the private functions of a block, an image and a document want, answer and leave.
 -- Assumes nothing.
 use mathlib.Core.Path.{_≡_}
-use mathlib.Core.Bool.{Bool, _&&_ as and}
-use mathlib.Core.List.{List}
+use mathlib.Core.Bool.{Bool, true, _&&_ as and}
+use mathlib.Core.List.{List, [], _∷_}
 use Prim.Native.Nat.{ℕ, _+_, _≤_, _<_}
 use lib.Dec.{ltb}
 use lib.ListN.{length}
@@ -19,6 +19,7 @@ use Rattle.serializer.specs.declared.PostingsSerializer.{PostingsSeriali
 use Rattle.serializer.specs.declared.block.Placed.{Placed}
 use Rattle.serializer.specs.declared.block.Placed.the-variants.{At, NoRoom}
 use Rattle.serializer.specs.declared.block.Places.{Places}
+use Rattle.serializer.specs.declared.Progress.{Progress}
 use Rattle.serializer.specs.declared.Written.{Written}
 use Rattle.serializer.specs.declared.Written.the-variants.{Bytes, Refused as No}
 use Rattle.serializer.specs.Writer.{boundsHold, optionOf, firstLeast, leastAfter, waitingDocs}
@@ -77,6 +78,36 @@ pub record ImagePut (image output output′ : List ℕ) (r : Written) : Type 0 w
   pub output-after : output′ ≡ putAt 0 image output
 
 -- ---- a document
+
+-- each id lies above the one before it
+unfoldable pub climbing : List ℕ → Bool
+climbing [] = true
+climbing (d ∷ []) = true
+climbing (d ∷ (e ∷ ds)) = and (ltb d e) (climbing (e ∷ ds))
+
+-- the numbers with one document more, which waits ..
+abbrev pub oneMore : Progress → Progress
+oneMore p = record {
+  mode = p .mode;
+  recording = p .recording;
+  waiting = p .waiting + 1;
+  «last_doc» = p .«last_doc»;
+  taken = p .taken + 1;
+  «skips_at» = p .«skips_at»;
+  «postings_at» = p .«postings_at»;
+}
+
+-- .. or filled a block that was written up to these places
+abbrev pub behindBlock : Progress → ℕ → Places → Progress
+behindBlock p d at = record {
+  mode = p .mode;
+  recording = p .recording;
+  waiting = 0;
+  «last_doc» = d;
+  taken = p .taken + 1;
+  «skips_at» = at .skips;
+  «postings_at» = at .postings;
+}
 
 -- what is asked before it is taken: 16, 11 to 13, and 16 where as many are taken as can be
 unfoldable pub asking : PostingsSerializer → (d f skips postings : ℕ) → Outcome ℕ

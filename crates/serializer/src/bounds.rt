@@ -1,102 +1,121 @@
-// Question 16 of document 01: whether the numbers of a lent state are in bounds.
+// Question 16 of document 01: whether the numbers of a lent state are in bounds. It is asked of every waiting document at each call, so
+// its loops have no branch inside: they become vector code.
 
-use crate::PostingsSerializer;
+use crate::Progress;
+use format::IndexRecordOption;
 use format::TERMINATED;
 use skip::has_freq;
 use skip::known_mode;
 use skip::record_option;
 ghost use mathlib.Core.Path.{_≡_};
 ghost use mathlib.Core.Bool.{not, _||_ as or};
-ghost use Prim.Native.Nat.{_≤_};
+ghost use mathlib.Core.List.{List};
+ghost use Prim.Native.Nat.{ℕ, _≤_, _<_};
+ghost use lib.ListN.{length, take};
 ghost use Rattle.format.specs.SkipEntry.{hasFreq};
 ghost use Rattle.format.specs.Values.{rising, countable};
-ghost use Rattle.serializer.specs.Writer.{boundsHold, firstLeast, optionOf, waitingDocs, waitingFreqs};
+ghost use Rattle.serializer.specs.Calls.{stateOf};
+ghost use Rattle.serializer.specs.Pieces.{climbing};
+ghost use Rattle.serializer.specs.Writer.{boundsHold, firstLeast};
 
-// Whether ids rise strictly from `least` on, below TERMINATED.
+// The first n of some values.
+pub(crate) fn front(values: &[u32], n: usize) -> &[u32]
+    requires { ⌜ n ≤ length (now values) ⌝ }
+    ensures { λ r. ⌜ now r ≡ take n (now (values .entry)) ⌝ }
+{
+    &values[..n]
+}
+
+// Whether each id lies above the one before it.
+fn climbs(docs: &[u32]) -> bool
+    requires { ⌜ 0 < length (now docs) ⌝ }
+    ensures { λ r. ⌜ r ≡ climbing (now (docs .entry)) ⌝ }
+{
+    let mut above = true;
+    for i in 1..docs.len() {
+        above = above & (docs[i - 1] < docs[i]);
+    }
+    above
+}
+
+// Whether ids rise strictly from `least` on, below TERMINATED: where each lies above the one before it, the first and the last decide.
 fn rises(docs: &[u32], least: u64) -> bool
     ensures { λ r. ⌜ r ≡ rising least (now (docs .entry)) ⌝ }
 {
-    let mut from = least;
-    for i in 0..docs.len() {
-        let doc = docs[i];
-        if (doc as u64) < from {
-            return false;
-        }
-        if TERMINATED <= doc {
-            return false;
-        }
-        from = doc as u64 + 1;
+    let n = docs.len();
+    if n == 0 {
+        return true;
     }
-    true
+    if (docs[0] as u64) < least {
+        return false;
+    }
+    if TERMINATED <= docs[n - 1] {
+        return false;
+    }
+    climbs(docs)
 }
 
 // Whether all frequencies are at least 1.
 fn counts(freqs: &[u32]) -> bool
     ensures { λ r. ⌜ r ≡ countable (now (freqs .entry)) ⌝ }
 {
+    let mut some = true;
     for i in 0..freqs.len() {
-        if freqs[i] == 0 {
-            return false;
-        }
+        some = some & (freqs[i] != 0);
     }
-    true
+    some
+}
+
+// Whether waiting frequencies, where they are kept, are at least 1.
+fn freqs_wait(option: IndexRecordOption, freqs: &[u32]) -> bool
+    ensures { λ r. ⌜ r ≡ or (not (hasFreq option)) (countable (now (freqs .entry))) ⌝ }
+{
+    if !has_freq(option) {
+        return true;
+    }
+    counts(freqs)
 }
 
 // The least id that the first waiting document may have; 2 ^ 32 where the last block's last id is the largest number of 32 bits.
-pub(crate) fn first_least(state: PostingsSerializer) -> u64
-    ensures { λ r. ⌜ r ≡ firstLeast state ⌝ }
+pub(crate) fn first_least(progress: Progress) -> u64
+    ensures { λ r. ⌜ ((docs freqs : List ℕ) → r ≡ firstLeast (stateOf progress docs freqs)) ⌝ }
 {
-    if state.waiting < state.taken as usize {
-        state.last_doc as u64 + 1
+    if progress.waiting < progress.taken as usize {
+        progress.last_doc as u64 + 1
     } else {
         0
     }
 }
 
-// Whether the waiting ids rise behind the last block.
-fn docs_wait(state: PostingsSerializer) -> bool
-    requires { ⌜ state .waiting ≤ 127 ⌝ }
-    ensures { λ r. ⌜ r ≡ rising (firstLeast state) (waitingDocs state) ⌝ }
-{
-    let docs = state.docs;
-    let waiting = state.waiting;
-    rises(&docs[..waiting], first_least(state))
-}
-
-// Whether the waiting frequencies, where they are kept, are at least 1.
-fn freqs_wait(state: PostingsSerializer) -> bool
-    requires { ⌜ state .waiting ≤ 127 ⌝ }
-    ensures { λ r. ⌜ r ≡ or (not (hasFreq (optionOf state))) (countable (waitingFreqs state)) ⌝ }
-{
-    if !has_freq(record_option(state.mode, state.recording)) {
-        return true;
-    }
-    let freqs = state.freqs;
-    let waiting = state.waiting;
-    counts(&freqs[..waiting])
-}
-
 // Whether a state is in bounds, by the lengths of the two areas.
-pub(crate) fn in_bounds(state: PostingsSerializer, skips: usize, postings: usize) -> bool
-    ensures { λ r. ⌜ r ≡ boundsHold state skips postings ⌝ }
+pub(crate) fn in_bounds(
+    progress: Progress,
+    docs: &[u32; 128],
+    freqs: &[u32; 128],
+    skips: usize,
+    postings: usize,
+) -> bool
+    ensures { λ r. ⌜ r ≡ boundsHold (stateOf progress (now (docs .entry)) (now (freqs .entry))) skips postings ⌝ }
 {
-    if 127 < state.waiting {
+    let waiting = progress.waiting;
+    if 127 < waiting {
         return false;
     }
-    if !docs_wait(state) {
+    if !rises(front(docs, waiting), first_least(progress)) {
         return false;
     }
-    if !freqs_wait(state) {
+    let option = record_option(progress.mode, progress.recording);
+    if !freqs_wait(option, front(freqs, waiting)) {
         return false;
     }
-    if TERMINATED < state.taken {
+    if TERMINATED < progress.taken {
         return false;
     }
-    if skips < state.skips_at {
+    if skips < progress.skips_at {
         return false;
     }
-    if postings < state.postings_at {
+    if postings < progress.postings_at {
         return false;
     }
-    known_mode(state.mode)
+    known_mode(progress.mode)
 }

@@ -1,12 +1,13 @@
-// One document more: what is asked of it, and what taking it does.
+// One document more: what is asked of it, and the block that it fills.
 
 use crate::Accepted;
-use crate::PostingsSerializer;
-use crate::Step;
+use crate::Progress;
+use crate::Progressed;
 use crate::block::Placed;
 use crate::block::Places;
 use crate::block::write_block;
 use crate::bounds::first_least;
+use crate::bounds::front;
 use crate::bounds::in_bounds;
 use format::FREQ_ZERO;
 use format::ID_NOT_RISING;
@@ -18,30 +19,27 @@ use format::TERMINATED;
 use skip::has_freq;
 use skip::record_option;
 ghost use mathlib.Core.Path.{_≡_};
-ghost use mathlib.Core.Bool.{true, not, _||_ as or};
+ghost use mathlib.Core.Bool.{not, _||_ as or};
 ghost use Prim.Native.Nat.{_≤_, _<_};
 ghost use lib.Dec.{leb};
-ghost use lib.ListN.{length};
+ghost use lib.ListN.{length, set};
 ghost use Rattle.format.specs.Accepted.{takeDoc};
 ghost use Rattle.format.specs.Basics.{ok};
 ghost use Rattle.format.specs.Basics as basics;
 ghost use Rattle.format.specs.SkipEntry.{hasFreq};
-ghost use Rattle.format.specs.Values.{rising};
-ghost use Rattle.serializer.specs.Calls.{accepted, Settled, Took};
-ghost use Rattle.serializer.specs.Pieces.{asking};
-ghost use Rattle.serializer.specs.Writer.{firstLeast, waitingDocs, leastAfter, stored, finished, emptied};
+ghost use Rattle.serializer.specs.Calls.{accepted, stateOf, TookIn};
+ghost use Rattle.serializer.specs.Pieces.{asking, oneMore, behindBlock};
+ghost use Rattle.serializer.specs.Writer.{leastAfter};
 
-// The least id that may come next.
-fn next_least(state: PostingsSerializer) -> u64
-    requires { ⌜ state .waiting ≤ 127 ⌝ }
-    ensures { λ r. ⌜ r ≡ leastAfter (firstLeast state) (waitingDocs state) ⌝ }
+// The least id that may come behind some ids, given the least that the first of them may have.
+fn least_after(least: u64, docs: &[u32]) -> u64
+    ensures { λ r. ⌜ r ≡ leastAfter least (now (docs .entry)) ⌝ }
 {
-    let waiting = state.waiting;
-    if waiting == 0 {
-        return first_least(state);
+    let n = docs.len();
+    if n == 0 {
+        return least;
     }
-    let docs = state.docs;
-    docs[waiting - 1] as u64 + 1
+    docs[n - 1] as u64 + 1
 }
 
 // Question 13.
@@ -72,128 +70,109 @@ pub(crate) fn ask_doc(option: IndexRecordOption, least: u64, doc: u32, freq: u32
 
 // What is asked before a document is taken: 16, 11 to 13, and 16 where as many are taken as can be.
 pub(crate) fn may_take(
-    state: PostingsSerializer,
+    progress: Progress,
     doc: u32,
     freq: u32,
+    docs: &[u32; 128],
+    freqs: &[u32; 128],
     skips: usize,
     postings: usize,
 ) -> Accepted
-    ensures { λ r. ⌜ r ≡ accepted (asking state doc freq skips postings) ⌝ }
+    ensures { λ r. ⌜ r ≡ accepted (asking (stateOf progress (now (docs .entry)) (now (freqs .entry))) doc freq skips postings) ⌝ }
 {
-    if !in_bounds(state, skips, postings) {
+    if !in_bounds(progress, docs, freqs, skips, postings) {
         return Accepted::Refused(STATE_BROKEN);
     }
-    let option = record_option(state.mode, state.recording);
-    let asked = ask_doc(option, next_least(state), doc, freq);
+    let option = record_option(progress.mode, progress.recording);
+    let least = least_after(first_least(progress), front(docs, progress.waiting));
+    let asked = ask_doc(option, least, doc, freq);
     let Accepted::Yes = asked else {
         return asked;
     };
-    if TERMINATED <= state.taken {
+    if TERMINATED <= progress.taken {
         return Accepted::Refused(STATE_BROKEN);
     }
     Accepted::Yes
 }
 
-// The state with the document waiting.
-fn with_doc(state: PostingsSerializer, doc: u32, freq: u32) -> PostingsSerializer
-    requires { ⌜ (state .waiting ≤ 127) × (state .taken < basics.TERMINATED) ⌝ }
-    ensures { λ r. ⌜ r ≡ stored state doc freq ⌝ }
+// The numbers with one document more, which waits.
+pub(crate) fn one_more(progress: Progress) -> Progress
+    requires { ⌜ (progress .waiting < 127) × (progress .taken < basics.TERMINATED) ⌝ }
+    ensures { λ r. ⌜ r ≡ oneMore progress ⌝ }
 {
-    let mut docs = state.docs;
-    let mut freqs = state.freqs;
-    let waiting = state.waiting;
-    docs[waiting] = doc;
-    freqs[waiting] = freq;
-    PostingsSerializer {
-        docs,
-        freqs,
-        mode: state.mode,
-        recording: state.recording,
-        waiting: waiting + 1,
-        last_doc: state.last_doc,
-        taken: state.taken + 1,
-        skips_at: state.skips_at,
-        postings_at: state.postings_at,
+    Progress {
+        mode: progress.mode,
+        recording: progress.recording,
+        waiting: progress.waiting + 1,
+        last_doc: progress.last_doc,
+        taken: progress.taken + 1,
+        skips_at: progress.skips_at,
+        postings_at: progress.postings_at,
     }
 }
 
-// The state behind a block that was written up to these places.
-fn without_block(state: PostingsSerializer, at: Places) -> PostingsSerializer
-    ensures { λ r. ⌜ r ≡ emptied state at ⌝ }
+// The numbers with one document more, which filled a block that was written up to these places.
+fn behind_block(progress: Progress, doc: u32, at: Places) -> Progress
+    requires { ⌜ progress .taken < basics.TERMINATED ⌝ }
+    ensures { λ r. ⌜ r ≡ behindBlock progress doc at ⌝ }
 {
-    let docs = state.docs;
-    let freqs = state.freqs;
-    let last_doc = docs[127];
-    PostingsSerializer {
-        docs,
-        freqs,
-        mode: state.mode,
-        recording: state.recording,
+    Progress {
+        mode: progress.mode,
+        recording: progress.recording,
         waiting: 0,
-        last_doc,
-        taken: state.taken,
+        last_doc: doc,
+        taken: progress.taken + 1,
         skips_at: at.skips,
         postings_at: at.postings,
     }
 }
 
-// Writes the block of the state `full`, in which 128 documents wait. Where there is no room the state before is kept.
-fn finish(
-    state: PostingsSerializer,
-    full: PostingsSerializer,
-    least: u32,
+// 128 values, the last of them replaced.
+fn with_last(values: &[u32; 128], last: u32) -> [u32; 128]
+    ensures { λ r. ⌜ r ≡ set (now (values .entry)) 127 last ⌝ }
+{
+    let mut block = *values;
+    block[127] = last;
+    block
+}
+
+// Takes a document that may be taken and fills a block, which is written into the areas. Where there is no room the arrays stay as
+// they were, so the block is put together in two of its own.
+pub(crate) fn fill_block(
+    progress: Progress,
+    doc: u32,
+    freq: u32,
+    docs: &mut [u32; 128],
+    freqs: &mut [u32; 128],
     skips: &mut [u8],
     postings: &mut [u8],
-) -> Step
-    requires { ⌜ rising least (full .docs) ≡ true ⌝ }
-    ensures { λ r. ⌜ Settled (finished full least (now (skips .entry)) (now (postings .entry))) state
-        (now (skips .entry)) (now (postings .entry)) (now (skips .exit)) (now (postings .exit)) r ⌝ }
+) -> Progressed
+    requires { ⌜ (asking (stateOf progress (now docs) (now freqs)) doc freq (length (now skips)) (length (now postings)) ≡ ok 0)
+        × (127 ≤ progress .waiting) ⌝ }
+    ensures { λ r. ⌜ TookIn (stateOf progress (now (docs .entry)) (now (freqs .entry))) doc freq (now (skips .entry)) (now (postings .entry))
+        (now (docs .exit)) (now (freqs .exit)) (now (skips .exit)) (now (postings .exit)) r ⌝ }
 {
-    let docs = full.docs;
-    let freqs = full.freqs;
-    let option = record_option(full.mode, full.recording);
+    let block_docs = with_last(docs, doc);
+    let block_freqs = with_last(freqs, freq);
+    let least = first_least(progress) as u32;
+    let at = Places {
+        skips: progress.skips_at,
+        postings: progress.postings_at,
+    };
+    let option = record_option(progress.mode, progress.recording);
     let placed = write_block(
         option,
         least,
-        &docs,
-        &freqs,
+        &block_docs,
+        &block_freqs,
         skips,
         postings,
-        Places {
-            skips: full.skips_at,
-            postings: full.postings_at,
-        },
+        at,
     );
-    let Placed::At(at) = placed else {
-        return Step {
-            answer: Accepted::Refused(NO_ROOM),
-            state,
-        };
+    let Placed::At(behind) = placed else {
+        return Progressed::Refused(NO_ROOM);
     };
-    Step {
-        answer: Accepted::Yes,
-        state: without_block(full, at),
-    }
-}
-
-// Takes a document that may be taken, and finishes its block where it fills one.
-pub(crate) fn take(
-    state: PostingsSerializer,
-    doc: u32,
-    freq: u32,
-    skips: &mut [u8],
-    postings: &mut [u8],
-) -> Step
-    requires { ⌜ asking state doc freq (length (now skips)) (length (now postings)) ≡ ok 0 ⌝ }
-    ensures { λ r. ⌜ Took state doc freq (now (skips .entry)) (now (postings .entry)) (now (skips .exit)) (now (postings .exit)) r ⌝ }
-{
-    let next = with_doc(state, doc, freq);
-    if state.waiting < 127 {
-        return Step {
-            answer: Accepted::Yes,
-            state: next,
-        };
-    }
-    let least = first_least(state) as u32;
-    finish(state, next, least, skips, postings)
+    *docs = block_docs;
+    *freqs = block_freqs;
+    Progressed::At(behind_block(progress, doc, behind))
 }

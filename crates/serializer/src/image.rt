@@ -1,7 +1,8 @@
 // A term's image: the skip length and the entries where there is a full block, the blocks, and the tail, at the front of the output.
 
-use crate::PostingsSerializer;
+use crate::Progress;
 use crate::Written;
+use crate::bounds::front;
 use common::put;
 use common::within;
 use format::IndexRecordOption;
@@ -17,12 +18,14 @@ use vint::vint_size;
 use vint::write_vint;
 ghost use mathlib.Core.Path.{_≡_};
 ghost use mathlib.Core.Bool.{true};
-ghost use Prim.Native.Nat.{_+_, _-_, _≤_};
+ghost use mathlib.Core.List.{List};
+ghost use Prim.Native.Nat.{ℕ, _+_, _-_, _≤_};
 ghost use lib.Dec.{leb};
 ghost use lib.ListN.{length};
 ghost use Rattle.format.specs.SkipEntry.{hasFreq};
 ghost use Rattle.format.specs.Vint.{vints};
 ghost use Rattle.format.specs.Written.{onlyIf, headOf, tailOf, imageWith};
+ghost use Rattle.serializer.specs.Calls.{stateOf};
 ghost use Rattle.serializer.specs.Pieces.{placeOf, BytesPut, ImagePut};
 ghost use Rattle.serializer.specs.Writer.{firstLeast, inBounds, imageOf};
 
@@ -167,11 +170,11 @@ pub(crate) fn put_image(
 }
 
 // The id that a tail's first difference is taken from: the last block's last id, 0 where there is no block.
-fn tail_offset(state: PostingsSerializer) -> u32
-    ensures { λ r. ⌜ r ≡ firstLeast state - 1 ⌝ }
+fn tail_offset(progress: Progress) -> u32
+    ensures { λ r. ⌜ ((docs freqs : List ℕ) → r ≡ firstLeast (stateOf progress docs freqs) - 1) ⌝ }
 {
-    if state.waiting < state.taken as usize {
-        state.last_doc
+    if progress.waiting < progress.taken as usize {
+        progress.last_doc
     } else {
         0
     }
@@ -179,27 +182,28 @@ fn tail_offset(state: PostingsSerializer) -> u32
 
 // Writes the image of a state that is in bounds at the front of the output.
 pub(crate) fn put_term(
-    state: PostingsSerializer,
+    progress: Progress,
+    docs: &[u32; 128],
+    freqs: &[u32; 128],
     skips: &[u8],
     postings: &[u8],
     output: &mut [u8],
 ) -> Written
-    requires { ⌜ inBounds state (now skips) (now postings) ≡ true ⌝ }
-    ensures { λ r. ⌜ ImagePut (imageOf state (now (skips .entry)) (now (postings .entry))) (now (output .entry)) (now (output .exit)) r ⌝ }
+    requires { ⌜ inBounds (stateOf progress (now docs) (now freqs)) (now skips) (now postings) ≡ true ⌝ }
+    ensures { λ r. ⌜ ImagePut (imageOf (stateOf progress (now (docs .entry)) (now (freqs .entry))) (now (skips .entry)) (now (postings .entry)))
+        (now (output .entry)) (now (output .exit)) r ⌝ }
 {
-    let docs = state.docs;
-    let freqs = state.freqs;
-    let waiting = state.waiting;
-    let skips_at = state.skips_at;
-    let postings_at = state.postings_at;
+    let waiting = progress.waiting;
+    let skips_at = progress.skips_at;
+    let postings_at = progress.postings_at;
     put_image(
-        state.taken as usize / 128,
+        progress.taken as usize / 128,
         &skips[..skips_at],
         &postings[..postings_at],
-        record_option(state.mode, state.recording),
-        tail_offset(state),
-        &docs[..waiting],
-        &freqs[..waiting],
+        record_option(progress.mode, progress.recording),
+        tail_offset(progress),
+        front(docs, waiting),
+        front(freqs, waiting),
         output,
     )
 }

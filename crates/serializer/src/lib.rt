@@ -2,22 +2,19 @@
 
 mod block;
 mod bounds;
+mod core;
 mod document;
 mod image;
 mod list;
 
-use crate::bounds::in_bounds;
-use crate::document::may_take;
-use crate::document::take;
-use crate::image::put_term;
-use format::COUNT_MISMATCH;
-use format::STATE_BROKEN;
-use format::UNKNOWN_MODE;
+use crate::core::fresh_progress;
+pub use core::close_term_in;
+pub use core::new_term_in;
+pub use core::write_doc_in;
 pub use list::ask_list;
 pub use list::write_list;
-use skip::known_mode;
 ghost use mathlib.Core.Path.{_≡_};
-ghost use Rattle.serializer.specs.Calls.{beginning, Took, Closed};
+ghost use Rattle.serializer.specs.Calls.{beginning, progressOf, stateOf, Took, Closed};
 ghost use Rattle.serializer.specs.Writer as specs;
 
 // A term being written. Finished blocks and their entries lie in two areas that the caller lends to each call.
@@ -61,23 +58,68 @@ pub struct ClosedTerm {
     pub state: PostingsSerializer,
 }
 
+// The numbers of a state, without the documents that wait: what a call on two lent arrays takes and gives.
+pub struct Progress {
+    pub mode: u8,
+    pub recording: bool,
+    pub waiting: usize,
+    pub last_doc: u32,
+    pub taken: u32,
+    pub skips_at: usize,
+    pub postings_at: usize,
+}
+
+// Where a call on two lent arrays came to; or the number of the question that was answered no.
+pub enum Progressed {
+    At(Progress),
+    Refused(u8),
+}
+
+// What closing a term from two lent arrays answers, with the numbers after it.
+pub struct ClosedIn {
+    pub answer: Written,
+    pub progress: Progress,
+}
+
+// The numbers of a state.
+fn progress_of(state: PostingsSerializer) -> Progress
+    ensures { λ r. ⌜ r ≡ progressOf state ⌝ }
+{
+    Progress {
+        mode: state.mode,
+        recording: state.recording,
+        waiting: state.waiting,
+        last_doc: state.last_doc,
+        taken: state.taken,
+        skips_at: state.skips_at,
+        postings_at: state.postings_at,
+    }
+}
+
+// Puts a state together again.
+fn state_of(progress: Progress, docs: [u32; 128], freqs: [u32; 128]) -> PostingsSerializer
+    ensures { λ r. ⌜ r ≡ stateOf progress docs freqs ⌝ }
+{
+    PostingsSerializer {
+        docs,
+        freqs,
+        mode: progress.mode,
+        recording: progress.recording,
+        waiting: progress.waiting,
+        last_doc: progress.last_doc,
+        taken: progress.taken,
+        skips_at: progress.skips_at,
+        postings_at: progress.postings_at,
+    }
+}
+
 // A state that holds no document.
 fn fresh(mode: u8, recording: bool) -> PostingsSerializer
     ensures { λ r. ⌜ r ≡ specs.fresh mode recording ⌝ }
 {
     let docs = [0u32; 128];
     let freqs = [0u32; 128];
-    PostingsSerializer {
-        docs,
-        freqs,
-        mode,
-        recording,
-        waiting: 0,
-        last_doc: 0,
-        taken: 0,
-        skips_at: 0,
-        postings_at: 0,
-    }
+    state_of(fresh_progress(mode, recording), docs, freqs)
 }
 
 // Begins a term: its mode, 0 or 1, and whether its frequencies are recorded.
@@ -85,15 +127,15 @@ pub fn new_term(mode: u8, recording: bool) -> Step
     ensures { λ r. ⌜ r ≡ beginning mode recording ⌝ }
 {
     let state = fresh(mode, recording);
-    if !known_mode(mode) {
-        return Step {
-            answer: Accepted::Refused(UNKNOWN_MODE),
+    match new_term_in(mode, recording) {
+        Progressed::At(_) => Step {
+            answer: Accepted::Yes,
             state,
-        };
-    }
-    Step {
-        answer: Accepted::Yes,
-        state,
+        },
+        Progressed::Refused(n) => Step {
+            answer: Accepted::Refused(n),
+            state,
+        },
     }
 }
 
@@ -107,14 +149,19 @@ pub fn write_doc(
 ) -> Step
     ensures { λ r. ⌜ Took state doc freq (now (skips .entry)) (now (postings .entry)) (now (skips .exit)) (now (postings .exit)) r ⌝ }
 {
-    let asked = may_take(state, doc, freq, skips.len(), postings.len());
-    let Accepted::Yes = asked else {
-        return Step {
-            answer: asked,
+    let mut docs = state.docs;
+    let mut freqs = state.freqs;
+    let was = progress_of(state);
+    match write_doc_in(was, doc, freq, &mut docs, &mut freqs, skips, postings) {
+        Progressed::At(next) => Step {
+            answer: Accepted::Yes,
+            state: state_of(next, docs, freqs),
+        },
+        Progressed::Refused(n) => Step {
+            answer: Accepted::Refused(n),
             state,
-        };
-    };
-    take(state, doc, freq, skips, postings)
+        },
+    }
 }
 
 // Closes a term of as many documents as announced: its image goes to the front of the output, and a fresh state is left.
@@ -127,24 +174,16 @@ pub fn close_term(
 ) -> ClosedTerm
     ensures { λ r. ⌜ Closed state announced (now (skips .entry)) (now (postings .entry)) (now (output .entry)) (now (output .exit)) r ⌝ }
 {
-    if !in_bounds(state, skips.len(), postings.len()) {
-        return ClosedTerm {
-            answer: Written::Refused(STATE_BROKEN),
-            state,
-        };
-    }
-    if state.taken != announced {
-        return ClosedTerm {
-            answer: Written::Refused(COUNT_MISMATCH),
-            state,
-        };
-    }
-    let put = put_term(state, skips, postings, output);
-    let Written::Bytes(_) = put else {
-        return ClosedTerm { answer: put, state };
+    let docs = state.docs;
+    let freqs = state.freqs;
+    let was = progress_of(state);
+    let closed = close_term_in(was, announced, &docs, &freqs, skips, postings, output);
+    let answer = closed.answer;
+    let Written::Bytes(_) = answer else {
+        return ClosedTerm { answer, state };
     };
     ClosedTerm {
-        answer: put,
+        answer,
         state: fresh(state.mode, state.recording),
     }
 }

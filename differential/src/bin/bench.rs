@@ -76,13 +76,21 @@ fn write(list: &List) -> Vec<u8> {
     report("document written", DOCUMENTS, &mut [("Rust", &mut rust)]);
     #[cfg(feature = "linked")]
     {
-        use differential::linked::{write_list, Lent};
+        use differential::linked::{write_docs, write_list, Lent};
         let [skips, postings, output] = [(); 3].map(|_| vec![0; 4 * DOCUMENTS]);
         let mut lent = Lent { skips, postings, output };
         let mut length = 0;
         let mut library = || length = write_list(list, &mut lent).unwrap() as usize;
         let sides: &mut [Side] = &mut [("Rust", &mut rust), ("library", &mut library)];
         report("document written", DOCUMENTS, sides);
+        assert!(lent.output[..length] == image, "the images differ");
+        // The Rust knows no other way; the library's single calls, behind the questions of the whole list.
+        lent.output[..length].fill(0);
+        let announced = DOCUMENTS as u32;
+        let mut rust = || image = oracle::write(list.mode, list.record, &list.ids, &list.freqs);
+        let mut library = || length = write_docs(list, announced, &mut lent).unwrap() as usize;
+        let sides: &mut [Side] = &mut [("Rust", &mut rust), ("library", &mut library)];
+        report("document written by single calls", DOCUMENTS, sides);
         assert!(lent.output[..length] == image, "the images differ");
     }
     image

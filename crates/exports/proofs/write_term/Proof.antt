@@ -1,43 +1,58 @@
 -- `exports::write_term` meets its contract: every call says yes, since the questions were all answered so.
 -- Assumes nothing.
-use mathlib.Core.Path.{_≡_, ap}
+use mathlib.Core.Path.{_≡_}
 use Prim.Native.Nat.{_^_}
 use native.Mathlib.Omega.{arith}
 use borrow.Author.Needs.{needs}
 use denote.Ref.{now}
+use lib.ListN.{replicate}
 use Rattle.format.specs.Basics.{AllBelow}
 use Rattle.format.proofs.Lists.{allBelow-of}
-use Rattle.serializer.specs.declared.Step.{Step}
-use Rattle.serializer.specs.Calls.{beginning}
+use Rattle.serializer.specs.Calls.{stateOf}
 use Rattle.serializer.specs.Writer.{fresh}
-use Rattle.exports.proofs.EachTaken.{term-takes, term-left}
+use Rattle.exports.proofs.EachTaken.{begun-fresh, term-begins, term-takes, term-left}
 use Rattle.exports.proofs.write_term.Statement.{statement}
 use Rattle.exports.proofs.write_term.Tie as tie
 
-new-term-requires : tie.Need-new-term-requires
-new-term-requires c κs = search needs
+new-term-in-requires : tie.Need-new-term-in-requires
+new-term-in-requires c κs = search needs
 
--- the state of a term that is begun
-module _ (c : tie.After-new-term) where
+module _ (c : tie.After-new-term-in) where
   abbrev start : tie.Start
   start = c .before .before .before .before .before .before
 
   small : AllBelow (2 ^ 32) (now (start .args .freqs))
   small = allBelow-of {m = 2 ^ 32} (now (start .args .freqs)) (λ i. omega (arith, c .before .before .before .before .shared-slice-known2 .given i))
 
-  begun-fresh : c .new-term .result .state ≡ fresh (start .args .mode) (start .args .recording)
-  unfolding beginning
-  begun-fresh = ap (λ (s : Step). s .state) (c .new-term .ensures)
+enum-known-first : tie.Need-enum-known-first
+enum-known-first c = search needs
+
+enum-told : tie.Need-enum-told
+enum-told c = search needs
+
+returns : tie.Need-returns
+returns c =
+    let term = c .before .before in
+    let a = start term .args in
+    absurd (term-begins (a .mode) (a .recording) (a .announced) _ _ _ _ _ (small term) (start term .pre .1) (term .new-term-in .ensures) (c .enum-told .given .1))
+
+-- the state of a term that is begun
+module _ (c : tie.After-first) where
+  abbrev begun : tie.After-new-term-in
+  begun = c .before .before
+
+  is-fresh : stateOf (c .first .given .0 .0) (replicate 128 0) (replicate 128 0) ≡ fresh (start begun .args .mode) (start begun .args .recording)
+  is-fresh = begun-fresh (start begun .args .mode) (start begun .args .recording) (begun .new-term-in .ensures) (c .first .given .1)
 
 write-each-requires : tie.Need-write-each-requires
 write-each-requires c κs =
-    let begun = c .before .before in
-    let a = start begun .args in
-    rw (begun-fresh begun)
-    (term-takes (a .mode) (a .recording) (a .announced) _ _ _ _ (now (a .output)) (small begun) (start begun .pre .1))
+    let first = c .before .before .before .before .before in
+    let term = begun first in
+    let a = start term .args in
+    term-takes (a .mode) (a .recording) (a .announced) _ _ _ _ (now (a .output)) (small term) (start term .pre .1) (is-fresh first)
 
-close-term-requires : tie.Need-close-term-requires
-close-term-requires c κs = search needs
+close-term-in-requires : tie.Need-close-term-in-requires
+close-term-in-requires c κs = search needs
 
 same-length : tie.Need-same-length
 same-length c = search needs
@@ -48,23 +63,27 @@ same-length-2 c = search needs
 same-length-3 : tie.Need-same-length-3
 same-length-3 c = search needs
 
-returns : tie.Need-returns
-returns c =
+returns-2 : tie.Need-returns-2
+returns-2 c =
     let closed = c .before .before in
-    let wrote = closed .before .before .before .before .before .before .before .before in
-    let begun = wrote .before .before .before in
-    let a = start begun .args in
-    term-left (a .mode) (a .recording) (a .announced) _ _ _ _ _ (small begun) (start begun .pre .1)
-    (rw (begun-fresh begun) at (wrote .write-each .ensures)) (closed .close-term .ensures)
+    let wrote = closed .before .before .before .before .before .before .before .before .before .before in
+    let first = wrote .before .before .before .before .before .before in
+    let term = begun first in
+    let a = start term .args in
+    term-left (a .mode) (a .recording) (a .announced) _ _ _ _ _ (small term) (start term .pre .1) (is-fresh first)
+    (wrote .write-each .ensures) (closed .close-term-in .ensures)
 
 pub write-term-spec : {M : Type 1} → statement M
 write-term-spec =
     tie.close
     (tie.spec
-    new-term-requires
+    new-term-in-requires
+    enum-known-first
+    enum-told
+    returns
     write-each-requires
-    close-term-requires
+    close-term-in-requires
     same-length
     same-length-2
     same-length-3
-    returns)
+    returns-2)

@@ -7,9 +7,13 @@ use native.Mathlib.Omega.{arith}
 use Rattle.format.specs.Basics.{Outcome, ok, refused}
 use Rattle.serializer.specs.declared.Accepted.{Accepted}
 use Rattle.serializer.specs.declared.Accepted.the-variants.{Yes, Refused as No}
+use Rattle.serializer.specs.declared.PostingsSerializer.{PostingsSerializer}
+use Rattle.serializer.specs.declared.Progress.{Progress}
+use Rattle.serializer.specs.declared.Progressed.{Progressed}
+use Rattle.serializer.specs.declared.Progressed.the-variants as progressed-as
 use Rattle.serializer.specs.declared.Written.{Written}
 use Rattle.serializer.specs.declared.Written.the-variants.{Bytes, Refused}
-use Rattle.serializer.specs.Calls.{accepted, answered}
+use Rattle.serializer.specs.Calls.{accepted, answered, progressOf, progressed}
 
 -- ---- of a call that gives no bytes
 
@@ -32,6 +36,19 @@ module _ {A : Type 0} where
     pub answers-no : {n : ℕ} → o ≡ refused n → No n ≡ accepted o
     unfolding accepted
     answers-no e = rw e
+
+-- ---- of a call on two lent arrays
+
+module _ {A : Type 0} (state : A → PostingsSerializer) where
+  pub progressed-at : (o : Outcome A) {r : Progressed} {p : Progress} → r ≡ progressed state o → r ≡ progressed-as.At p → (a : A) × (o ≡ ok a) × (p ≡ progressOf (state a))
+  unfolding progressed
+  progressed-at (ok a) e told = (a, refl, cc)
+  progressed-at (refused k) e told = absurd (let z : _≡_ {A = ℕ} 0 1 = cc in omega arith)
+
+  pub progressed-refused : (o : Outcome A) {r : Progressed} {n : ℕ} → r ≡ progressed state o → r ≡ progressed-as.Refused n → o ≡ refused n
+  unfolding progressed
+  progressed-refused (ok a) e told = absurd (let z : _≡_ {A = ℕ} 0 1 = cc in omega arith)
+  progressed-refused (refused k) e told = cc
 
 -- ---- of one that writes an image
 

@@ -11,7 +11,7 @@ use native.Mathlib.Omega.{arith}
 use borrow.Author.Tests.{le-leb, lt-leb, leb-true}
 use lib.Dec.{leb}
 use lib.ListN.{length, getD, take, drop, length-append, length-drop}
-use lib.Seq.{length-take-le, take-all}
+use lib.Seq.{length-take-le, getD-take, take-all}
 use Rattle.format.specs.declared.IndexRecordOption.{IndexRecordOption}
 use Rattle.format.specs.declared.IndexRecordOption.the-variants.{Basic, WithFreqs}
 use Rattle.format.specs.Basics.{lastOf, fitsAt, TERMINATED}
@@ -49,8 +49,10 @@ block-rises m ds r = rising-take _ 128 (drop m ds) (rises-behind 0 m ds r)
 pub least-next : (n : ℕ) (ds : List ℕ) → 128 * n + 128 ≤ length ds
     → leastAfter 0 (take (128 * (n + 1)) ds) ≡ getD ds (128 * n + 127) 0 + 1
 least-next n ds h =
-    let end : 128 * (n + 1) - 1 ≡ 128 * n + 127 = omega arith in
-    least-some 0 ds (128 * (n + 1)) (omega arith) (omega arith) ∙ rw end
+    let k : ℕ = 128 * (n + 1) in
+    let long : length (take k ds) ≡ k = length-take-le k ds (omega arith) in
+    let end : k - 1 ≡ 128 * n + 127 = omega arith in
+    least-some 0 (take k ds) (omega arith) ∙ rw (long, end, getD-take k ds (128 * n + 127) 0 (omega arith))
 
 -- .. is a number of 32 bits
 pub id-below : (ds : List ℕ) (i : ℕ) → rising 0 ds ≡ true → getD ds i 0 < TERMINATED

@@ -1,15 +1,42 @@
--- What bounds say of a state: few documents wait, their ids rise, and the areas reach no further than their slices.
+-- Question 16, asked in turn; and what a yes says of a state: few documents wait, their ids rise, and the areas reach no further than
+-- their slices.
 -- Assumes nothing.
 use mathlib.Core.Path.{_≡_}
-use mathlib.Core.Bool.{true, not, _&&_ as and, _||_ as or, and-eq-true-iff}
-use Prim.Native.Nat.{ℕ, _≤_}
+use mathlib.Core.Bool.{true, false, not, _&&_ as and, _||_ as or, and-eq-true-iff}
+use Prim.Native.Nat.{ℕ, _≤_, _<_}
 use lib.Dec.{leb}
-use borrow.Author.Tests.{leb-true}
+use borrow.Author.Tests.{leb-true, le-leb, lt-leb}
+use Rattle.format.specs.Accepted.{knownMode}
 use Rattle.format.specs.Basics.{TERMINATED}
 use Rattle.format.specs.SkipEntry.{hasFreq}
 use Rattle.format.specs.Values.{rising, countable}
 use Rattle.serializer.specs.declared.PostingsSerializer.{PostingsSerializer}
 use Rattle.serializer.specs.Writer.{boundsHold, optionOf, firstLeast, waitingDocs, waitingFreqs}
+
+-- ---- in turn: the first no answers it
+
+module _ (s : PostingsSerializer) (n m : ℕ) where
+  pub many-wait : 127 < s .waiting → boundsHold s n m ≡ false
+  unfolding boundsHold
+  many-wait many = rw (lt-leb _ _ many)
+
+  module _ (few : s .waiting ≤ 127) where
+    pub docs-fall : rising (firstLeast s) (waitingDocs s) ≡ false → boundsHold s n m ≡ false
+    unfolding boundsHold
+    docs-fall fall = rw (le-leb _ _ few, fall)
+
+    module _ (rise : rising (firstLeast s) (waitingDocs s) ≡ true) where
+      pub freqs-lack : or (not (hasFreq (optionOf s))) (countable (waitingFreqs s)) ≡ false → boundsHold s n m ≡ false
+      unfolding boundsHold
+      freqs-lack lack = rw (le-leb _ _ few, rise, lack)
+
+      pub numbers-asked : or (not (hasFreq (optionOf s))) (countable (waitingFreqs s)) ≡ true
+          → boundsHold s n m
+          ≡ and (leb (s .taken) TERMINATED) (and (and (leb (s .«skips_at») n) (leb (s .«postings_at») m)) (knownMode (s .mode)))
+      unfolding boundsHold
+      numbers-asked count = rw (le-leb _ _ few, rise, count)
+
+-- ---- what a yes says
 
 module _ (s : PostingsSerializer) (n m : ℕ) (holds : boundsHold s n m ≡ true) where
   pub few : s .waiting ≤ 127

@@ -2,15 +2,16 @@
 -- rise and that the document's lies above them, so that a block that it fills rises too. Whether that block has room decides what is
 -- left behind.
 -- Assumes nothing.
-use mathlib.Core.Path.{_≡_, refl, sym, _∙_}
+use mathlib.Core.Path.{_≡_, refl, sym, ap, subst, _∙_}
 use mathlib.Core.Bool.{Bool, true, false}
 use mathlib.Core.List.{List, [], _∷_}
 use Prim.Native.Nat.{ℕ, suc, _+_, _-_, _≤_, _<_}
 use native.Mathlib.Omega.{arith}
 use lib.Dec.{leb, ltb}
-use lib.ListN.{length, getD, take, set, drop-of-length-le}
-use lib.Seq.{length-take-le, set-split, getD-take}
+use lib.ListN.{length, getD, take, set, length-set, drop-of-length-le}
+use lib.Seq.{length-take-le, set-split, getD-set-same}
 use borrow.Author.Tests.{le-leb, lt-ltb, le-ltb, leb-true, ltb-true}
+use Rattle.format.specs.declared.IndexRecordOption.{IndexRecordOption}
 use Rattle.format.specs.Basics.{Outcome, ok, refused, andThen, ask, choose, lastOf, putAt, TERMINATED, orBefore}
 use Rattle.format.specs.Refusal.{noRoom, stateBroken}
 use Rattle.format.specs.Values.{rising}
@@ -18,12 +19,12 @@ use Rattle.format.specs.Accepted.{takeDoc}
 use Rattle.format.proofs.Outcome.{ask-ok, andThen-ok}
 use Rattle.format.proofs.Values.{rising-append, rising-last}
 use Rattle.serializer.specs.declared.PostingsSerializer.{PostingsSerializer}
-use Rattle.serializer.specs.declared.Accepted.the-variants.{Yes, Refused}
+use Rattle.serializer.specs.declared.Progressed.the-variants.{At as Came, Refused}
 use Rattle.serializer.specs.declared.block.Placed.{Placed}
 use Rattle.serializer.specs.declared.block.Placed.the-variants.{At, NoRoom}
 use Rattle.serializer.specs.declared.block.Places.{Places}
-use Rattle.serializer.specs.Calls.{accepted, Settled}
-use Rattle.serializer.specs.Pieces.{asking, behindBoth, BlockWritten, blockFits}
+use Rattle.serializer.specs.Calls.{progressOf, progressed, SettledIn, TookIn}
+use Rattle.serializer.specs.Pieces.{asking, behindBlock, behindBoth, BlockWritten, blockFits}
 use Rattle.format.specs.Written.{entryOf, blockOf}
 use Rattle.serializer.specs.Writer.{Areas, boundsHold, inBounds, optionOf, firstLeast, leastAfter, waitingDocs, stored, finished, taking, emptied}
 use Rattle.serializer.proofs.block.BlockPlaced.{last-at}
@@ -32,14 +33,13 @@ use Rattle.serializer.proofs.list.Blocks.{leastAfter-last}
 
 -- ---- the least id that may come
 
-pub least-none : (least : ℕ) (ds : List ℕ) {w : ℕ} → w ≡ 0 → leastAfter least (take w ds) ≡ least
+pub least-none : (least : ℕ) (ds : List ℕ) → length ds ≡ 0 → leastAfter least ds ≡ least
 unfolding leastAfter
-least-none least ds e = rw e
+least-none least [] e = refl
+least-none least (d ∷ ds) e = absurd (omega arith)
 
-pub least-some : (least : ℕ) (ds : List ℕ) (w : ℕ) → 0 < w → w ≤ length ds → leastAfter least (take w ds) ≡ getD ds (w - 1) 0 + 1
-least-some least ds w pos h =
-    let long = length-take-le w ds h in
-    leastAfter-last least (take w ds) (omega arith) ∙ rw (last-at (take w ds), long, getD-take w ds (w - 1) 0 (omega arith))
+pub least-some : (least : ℕ) (ds : List ℕ) → 0 < length ds → leastAfter least ds ≡ getD ds (length ds - 1) 0 + 1
+least-some least ds some = leastAfter-last least ds some ∙ rw (last-at ds)
 
 -- ---- what is asked
 
@@ -96,36 +96,6 @@ admitted s d f n m e =
       not-full = ltb-true _ _ (not-full .0);
     }
 
--- ---- the block that a document fills
-
-module _ (s : PostingsSerializer) (d : ℕ) (a : Admitted s d) (full : 127 ≤ s .waiting) (sized : length (s .docs) ≡ 128) where
-  long : length (take (s .waiting) (s .docs)) ≡ 127
-  long = length-take-le (s .waiting) (s .docs) (omega (arith, a .waits)) ∙ omega (arith, a .waits)
-
-  -- its first id may be any number of 32 bits
-  pub least-small : firstLeast s < TERMINATED
-  unfolding waitingDocs
-  least-small =
-      let h : 0 < length (take (s .waiting) (s .docs)) = omega (arith, long) in
-      let last = rising-last (firstLeast s) (take (s .waiting) (s .docs)) (a .rises) h in
-      omega arith
-
-  pub filled-rises : rising (firstLeast s) (set (s .docs) (s .waiting) d) ≡ true
-  unfolding rising waitingDocs
-  filled-rises =
-      let ds = take (s .waiting) (s .docs) in
-      let h : 0 < length ds = omega (arith, long) in
-      let none : length (s .docs) ≤ suc (s .waiting) = omega arith in
-      let above : lastOf 0 ds + 1 ≤ d = rw (← leastAfter-last (firstLeast s) ds h) (a .above) in
-      rw (
-        set-split (s .docs) (s .waiting) d (omega (arith, a .waits)),
-        drop-of-length-le (s .docs) none,
-        rising-append (firstLeast s) ds (d ∷ []) h,
-        a .rises,
-        le-leb _ _ above,
-        lt-ltb _ _ (a .below),
-      )
-
 -- ---- what taking leaves
 
 module _ (s : PostingsSerializer) (d f : ℕ) (skips postings : List ℕ) where
@@ -176,17 +146,19 @@ unfolding choose
 had-room true at e = (refl, cc)
 had-room false at e = absurd (let z : _≡_ {A = ℕ} 0 1 = cc in omega arith)
 
-pub settled-refused : (s : PostingsSerializer) (skips postings : List ℕ) {o : Outcome Areas} {n : ℕ} → o ≡ refused n
-    → Settled o s skips postings skips postings (record { answer = Refused n; state = s })
-unfolding accepted orBefore
-settled-refused s skips postings e = record { answer = rw e; state = rw e; skips-after = rw e; postings-after = rw e }
+pub settled-refused : (docs freqs skips postings : List ℕ) {o : Outcome Areas} {n : ℕ} → o ≡ refused n
+    → SettledIn o docs freqs skips postings docs freqs skips postings (Refused n)
+unfolding progressed orBefore
+settled-refused docs freqs skips postings e =
+    record { answer = rw e; docs-after = rw e; freqs-after = rw e; skips-after = rw e; postings-after = rw e }
 
-pub settled-ok : (s : PostingsSerializer) (skips postings : List ℕ) {o : Outcome Areas} {a : Areas} → o ≡ ok a
-    → Settled o s skips postings (a .skips) (a .postings) (record { answer = Yes; state = a .state })
-unfolding accepted orBefore
-settled-ok s skips postings e = record { answer = rw e; state = rw e; skips-after = rw e; postings-after = rw e }
+pub settled-ok : (docs freqs skips postings : List ℕ) {o : Outcome Areas} {a : Areas} → o ≡ ok a
+    → SettledIn o docs freqs skips postings (a .state .docs) (a .state .freqs) (a .skips) (a .postings) (Came (progressOf (a .state)))
+unfolding progressed orBefore
+settled-ok docs freqs skips postings e =
+    record { answer = rw e; docs-after = rw e; freqs-after = rw e; skips-after = rw e; postings-after = rw e }
 
-module _ (full : PostingsSerializer) (least : ℕ) (skips postings : List ℕ) where
+module _ (full : PostingsSerializer) (least : ℕ) (skips postings docs freqs : List ℕ) where
   abbrev entry : List ℕ
   entry = entryOf (optionOf full) least (full .docs) (full .freqs)
 
@@ -212,16 +184,90 @@ module _ (full : PostingsSerializer) (least : ℕ) (skips postings : List ℕ) w
   unfolding finished blockFits
   finished-is = refl
 
-  pub finish-refused : (s : PostingsSerializer) {skips′ postings′ : List ℕ} → Written skips′ postings′ NoRoom
-      → Settled (finished full least skips postings) s skips postings skips′ postings′ (record { answer = Refused noRoom; state = s })
+  finish-refused : {skips′ postings′ : List ℕ} → Written skips′ postings′ NoRoom
+      → SettledIn (finished full least skips postings) docs freqs skips postings docs freqs skips′ postings′ (Refused noRoom)
   unfolding ask choose
-  finish-refused s w =
+  finish-refused w =
       let short = no-room fits _ (w .placed) in
-      rw (w .skips-after, w .postings-after, short) (settled-refused s skips postings (rw (finished-is, short)))
+      rw (w .skips-after, w .postings-after, short) (settled-refused docs freqs skips postings (rw (finished-is, short)))
 
-  pub finish-done : (s : PostingsSerializer) {skips′ postings′ : List ℕ} {next : Places} → Written skips′ postings′ (At next)
-      → Settled (finished full least skips postings) s skips postings skips′ postings′ (record { answer = Yes; state = emptied full next })
-  unfolding ask choose
-  finish-done s w =
+  finish-done : {skips′ postings′ : List ℕ} {next : Places} → Written skips′ postings′ (At next)
+      → SettledIn (finished full least skips postings) docs freqs skips postings (full .docs) (full .freqs) skips′ postings′
+      (Came (progressOf (emptied full next)))
+  unfolding ask choose emptied
+  finish-done w =
       let room = had-room fits _ (w .placed) in
-      rw (w .skips-after, w .postings-after, room .0, room .1) (settled-ok s skips postings (rw (finished-is, room .0)))
+      rw (w .skips-after, w .postings-after, room .0, room .1) (settled-ok docs freqs skips postings (rw (finished-is, room .0)))
+
+-- ---- the block that a document fills
+
+module _ (s : PostingsSerializer) (d f : ℕ) (skips postings : List ℕ) (may : asking s d f (length skips) (length postings) ≡ ok 0)
+    (many : 127 ≤ s .waiting) (sized : length (s .docs) ≡ 128) where
+  -- it is the last of its block
+  last-place : s .waiting ≡ 127
+  last-place = omega (arith, admitted s d f _ _ may .waits)
+
+  waiting-rise : rising (firstLeast s) (take 127 (s .docs)) ≡ true
+  unfolding waitingDocs
+  waiting-rise = subst (λ (w : ℕ). rising (firstLeast s) (take w (s .docs)) ≡ true) last-place (admitted s d f _ _ may .rises)
+
+  long : length (take 127 (s .docs)) ≡ 127
+  long = length-take-le 127 (s .docs) (omega arith)
+
+  -- its first id may be any number of 32 bits
+  pub least-small : firstLeast s < TERMINATED
+  least-small =
+      let last = rising-last (firstLeast s) (take 127 (s .docs)) waiting-rise (omega (arith, long)) in
+      omega arith
+
+  pub filled-rises : rising (firstLeast s) (set (s .docs) 127 d) ≡ true
+  unfolding rising waitingDocs
+  filled-rises =
+      let ds = take 127 (s .docs) in
+      let a = admitted s d f _ _ may in
+      let h : 0 < length ds = omega (arith, long) in
+      let none : length (s .docs) ≤ suc 127 = omega arith in
+      let behind = subst (λ (w : ℕ). leastAfter (firstLeast s) (take w (s .docs)) ≤ d) last-place (a .above) in
+      let above : lastOf 0 ds + 1 ≤ d = rw (← leastAfter-last (firstLeast s) ds h) behind in
+      rw (
+        set-split (s .docs) 127 d (omega arith),
+        drop-of-length-le (s .docs) none,
+        rising-append (firstLeast s) ds (d ∷ []) h,
+        waiting-rise,
+        le-leb _ _ above,
+        lt-ltb _ _ (a .below),
+      )
+
+  filled-last : lastOf 0 (set (s .docs) 127 d) ≡ d
+  filled-last = last-at (set (s .docs) 127 d) ∙ rw (length-set, sized) (getD-set-same (s .docs) 127 d 0 (omega arith))
+
+  -- the block that is written is that of the state with the document in its place
+  module _ {option : IndexRecordOption} {least : ℕ} {ds fs skips′ postings′ : List ℕ} {r : Placed} (option-is : option ≡ optionOf s)
+      (least-is : least ≡ firstLeast s) (ds-are : ds ≡ set (s .docs) 127 d) (fs-are : fs ≡ set (s .freqs) 127 f)
+      (w : BlockWritten option least ds fs (record { skips = s .«skips_at»; postings = s .«postings_at» }) skips postings skips′ postings′ r) where
+    docs-stored : ds ≡ stored s d f .docs
+    unfolding stored
+    docs-stored = ds-are ∙ ap (λ (w : ℕ). set (s .docs) w d) (sym last-place)
+
+    freqs-stored : fs ≡ stored s d f .freqs
+    unfolding stored
+    freqs-stored = fs-are ∙ ap (λ (w : ℕ). set (s .freqs) w f) (sym last-place)
+
+    block-stored : Written (stored s d f) (firstLeast s) skips postings (s .docs) (s .freqs) skips′ postings′ r
+    unfolding stored optionOf
+    block-stored = rw (option-is, least-is, docs-stored, freqs-stored) at w
+
+    -- there is no room
+    pub fill-refused : r ≡ NoRoom → TookIn s d f skips postings (s .docs) (s .freqs) skips′ postings′ (Refused noRoom)
+    fill-refused e =
+        rw (taking-fills s d f skips postings may many)
+        (finish-refused (stored s d f) (firstLeast s) skips postings (s .docs) (s .freqs) (rw e at block-stored))
+
+    -- .. or the block is written
+    pub fill-done : {next : Places} → r ≡ At next
+        → TookIn s d f skips postings ds fs skips′ postings′ (Came (behindBlock (progressOf s) d next))
+    unfolding stored emptied progressOf
+    fill-done e =
+        let done = finish-done (stored s d f) (firstLeast s) skips postings (s .docs) (s .freqs) (rw e at block-stored) in
+        let last = ap (lastOf 0) (sym docs-stored ∙ ds-are) ∙ filled-last in
+        rw (taking-fills s d f skips postings may many, docs-stored, freqs-stored) (rw last at done)

@@ -3,6 +3,7 @@
 use borrow.Author.Tests.{lt-ltb, le-ltb}
 use borrow.Author.Needs.{needs}
 use Rattle.format.specs.Basics.{choose}
+use Rattle.serializer.specs.Calls.{stateOf}
 use Rattle.serializer.specs.Writer.{firstLeast}
 use Rattle.serializer.proofs.bounds.first_least.Statement.{statement}
 use Rattle.serializer.proofs.bounds.first_least.Tie as tie
@@ -17,12 +18,12 @@ add-result : tie.Need-add-result
 add-result c = search needs
 
 returns : tie.Need-returns
-unfolding firstLeast choose
-returns c = rw (lt-ltb _ _ (c .before .if1 .taken))
+unfolding firstLeast stateOf choose
+returns c docs freqs = rw (lt-ltb _ _ (c .before .if1 .taken))
 
 returns-2 : tie.Need-returns-2
-unfolding firstLeast choose
-returns-2 c = rw (le-ltb _ _ (c .if1 .left))
+unfolding firstLeast stateOf choose
+returns-2 c docs freqs = rw (le-ltb _ _ (c .if1 .left))
 
 pub first-least-spec : {M : Type 1} → statement M
 first-least-spec = tie.close (tie.spec cast-if1 cast-result add-result returns returns-2)

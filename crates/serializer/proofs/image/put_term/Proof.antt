@@ -8,6 +8,8 @@ use denote.Ref.{now}
 use lib.ListN.{length}
 use lib.Seq.{length-take-le}
 use borrow.Author.Needs.{needs}
+use Rattle.serializer.specs.declared.PostingsSerializer.{PostingsSerializer}
+use Rattle.serializer.specs.Calls.{stateOf}
 use Rattle.serializer.specs.Writer.{boundsHold, inBounds, optionOf, waitingDocs, waitingFreqs}
 use Rattle.serializer.proofs.image.CloseCases.{image-of}
 use Rattle.serializer.proofs.bounds.Question16.{few, skips-within, postings-within}
@@ -17,25 +19,32 @@ use Rattle.serializer.proofs.image.put_term.Tie as tie
 cast-put-image : tie.Need-cast-put-image
 cast-put-image c = search needs
 
-holds : (c : tie.Start) → boundsHold (c .args .state) (length (now (c .args .skips))) (length (now (c .args .postings))) ≡ true
-unfolding inBounds
-holds c = c .pre
+-- the state whose image is written is in bounds
+module _ (c : tie.Start) where
+  abbrev state : PostingsSerializer
+  state = stateOf (c .args .progress) (now (c .args .docs)) (now (c .args .freqs))
 
-waits : (c : tie.Start) → c .args .state .waiting ≤ 127
-waits c = few (c .args .state) _ _ (holds c)
+  holds : boundsHold state (length (now (c .args .skips))) (length (now (c .args .postings))) ≡ true
+  unfolding inBounds
+  holds = c .pre
 
-sized : (c : tie.Start) → (length (c .args .state .docs) ≡ 128) × (length (c .args .state .freqs) ≡ 128)
-sized c = (search needs, search needs)
+  waits : c .args .progress .waiting ≤ 127
+  unfolding stateOf
+  waits = few state _ _ holds
+
+  skips-reach : c .args .progress .«skips_at» ≤ length (now (c .args .skips))
+  unfolding stateOf
+  skips-reach = skips-within state _ (length (now (c .args .postings))) holds
+
+  postings-reach : c .args .progress .«postings_at» ≤ length (now (c .args .postings))
+  unfolding stateOf
+  postings-reach = postings-within state (length (now (c .args .skips))) _ holds
 
 slice-aggregate-put-image : tie.Need-slice-aggregate-put-image
-slice-aggregate-put-image c =
-    let start = c .before .before .before .before .before .before .before in
-    sym (length-take-le _ _ (skips-within (start .args .state) _ (length (now (start .args .postings))) (holds start)))
+slice-aggregate-put-image c = sym (length-take-le _ _ (skips-reach (c .before .before .before .before .before)))
 
 slice-aggregate-put-image-2 : tie.Need-slice-aggregate-put-image-2
-slice-aggregate-put-image-2 c =
-    let start = c .before .before .before .before .before .before .before .before in
-    sym (length-take-le _ _ (postings-within (start .args .state) (length (now (start .args .skips))) _ (holds start)))
+slice-aggregate-put-image-2 c = sym (length-take-le _ _ (postings-reach (c .before .before .before .before .before .before)))
 
 record-option-requires : tie.Need-record-option-requires
 record-option-requires c κs = search needs
@@ -43,21 +52,11 @@ record-option-requires c κs = search needs
 tail-offset-requires : tie.Need-tail-offset-requires
 tail-offset-requires c κs = search needs
 
-array-share-prefix-docs : tie.Need-array-share-prefix-docs
-array-share-prefix-docs c =
-    let start = c .before .before .before .before .before .before .before .before .before .before in
-    omega (arith, sized start, waits start)
+front-requires : tie.Need-front-requires
+front-requires c κs = omega (arith, waits (c .before .before .before .before .before .before .before .before .before))
 
-slice-aggregate-put-image-3 : tie.Need-slice-aggregate-put-image-3
-slice-aggregate-put-image-3 c = sym (length-take-le _ _ (array-share-prefix-docs (c .before)))
-
-array-share-prefix-freqs : tie.Need-array-share-prefix-freqs
-array-share-prefix-freqs c =
-    let start = c .before .before .before .before .before .before .before .before .before .before .before in
-    omega (arith, sized start, waits start)
-
-slice-aggregate-put-image-4 : tie.Need-slice-aggregate-put-image-4
-slice-aggregate-put-image-4 c = sym (length-take-le _ _ (array-share-prefix-freqs (c .before)))
+front-requires-2 : tie.Need-front-requires-2
+front-requires-2 c κs = omega (arith, waits (c .before .before .before .before .before .before .before .before .before .before .before))
 
 put-image-requires : tie.Need-put-image-requires
 put-image-requires c κs = search needs
@@ -66,12 +65,16 @@ same-length : tie.Need-same-length
 same-length c = search needs
 
 returns : tie.Need-returns
-unfolding optionOf waitingDocs waitingFreqs
+unfolding optionOf waitingDocs waitingFreqs stateOf
 returns c =
     let put = c .before .before in
-    let offset = put .before .before .before .before in
-    let a = offset .before .before .before .before .before .before .before .before .before .before .args in
-    rw (image-of (a .state) (now (a .skips)) (now (a .postings)), ← offset .tail-offset .ensures, ← offset .before .record-option .ensures) (put .put-image .ensures)
+    let freqs = put .before .before in
+    let docs = freqs .before .before in
+    let offset = docs .before .before in
+    let start = offset .before .before .before .before .before .before .before .before in
+    rw (image-of (state start) (now (start .args .skips)) (now (start .args .postings)) (offset .before .record-option .ensures)
+    (offset .tail-offset .ensures _ _) (docs .front .ensures) (freqs .front2 .ensures))
+    (put .put-image .ensures)
 
 pub put-term-spec : {M : Type 1} → statement M
 put-term-spec =
@@ -82,10 +85,8 @@ put-term-spec =
     slice-aggregate-put-image-2
     record-option-requires
     tail-offset-requires
-    array-share-prefix-docs
-    slice-aggregate-put-image-3
-    array-share-prefix-freqs
-    slice-aggregate-put-image-4
+    front-requires
+    front-requires-2
     put-image-requires
     same-length
     returns)
