@@ -7,7 +7,7 @@ use mathlib.Core.Path.{_≡_, sym, ap, subst, _∙_}
 use Prim.Native.Nat.{ℕ, _+_, _≤_, _<_, _^_}
 use native.Mathlib.Numerals.{add-one}
 use native.Mathlib.Omega.{arith}
-use lib.ListN.{length, getD, drop, replicate}
+use lib.ListN.{length, getD, drop}
 use lib.Seq.{drop-cons, drop-length}
 use Rattle.format.specs.Basics.{Outcome, ok, refused, andThen, ask, orBefore, AllBelow}
 use Rattle.format.specs.Accepted.{keptIn, begin, written}
@@ -20,15 +20,15 @@ use Rattle.serializer.specs.declared.Progressed.{Progressed}
 use Rattle.serializer.specs.declared.Progressed.the-variants as progressed-as
 use Rattle.serializer.specs.declared.Written.the-variants.{Refused}
 use Rattle.serializer.specs.Writer.{Areas, fresh, taking, takeAll, listing, announcing}
-use Rattle.serializer.specs.Calls.{answered, progressOf, progressed, stateOf, TookIn, ClosedFrom, ListedAs}
+use Rattle.serializer.specs.Calls.{answered, progressed, stateOf, Begun, TookIn, ClosedFrom, ListedAs}
 use Rattle.serializer.specs.Lists.{HasRoom, WritesList}
-use Rattle.serializer.proofs.Laws.AnswerTells.{progressed-at, progressed-refused}
+use Rattle.serializer.proofs.Laws.AnswerTells.{progressed-refused}
 use Rattle.serializer.proofs.Laws.ByValue.{settled-at}
 use Rattle.serializer.proofs.Laws.WholeList.{whole-list-writes, announced-writes}
 use Rattle.serializer.proofs.SingleCalls.AllDocuments.{takeAll-cons}
 use Rattle.serializer.proofs.SingleCalls.WritesList.{single-calls-write}
 use Rattle.postings.specs.WriterCalls.{areasOf}
-use Rattle.postings.proofs.SingleCalls.{settled-ok}
+use Rattle.postings.proofs.WriterManners.{settled-gives, gives-ok}
 use Rattle.exports.specs.Exports.{marked, coded, LeftCoded}
 
 -- ---- turn by turn
@@ -48,7 +48,7 @@ module _ (ds fs : List ℕ) (same : length ds ≡ length fs) (i : ℕ) (s : Post
     pub takes-on : {p : Progress} → r ≡ progressed-as.At p → onFrom ds fs (i + 1) (areasOf (stateOf p docs′ freqs′) skips′ postings′) ≡ ok a
     takes-on told =
         let p = andThen-ok _ (λ (k : Areas). onFrom ds fs (i + 1) k) (sym (turn below) ∙ e) in
-        subst (λ (k : Areas). onFrom ds fs (i + 1) k ≡ ok a) (sym (settled-ok (settled-at t s told) (p .1) .1)) (p .2)
+        subst (λ (k : Areas). onFrom ds fs (i + 1) k ≡ ok a) (sym (gives-ok (settled-gives (settled-at t s told)) (p .1) .1)) (p .2)
 
     -- none is refused
     pub takes-all : {n : ℕ} → r ≡ progressed-as.Refused n → ⊥
@@ -60,16 +60,6 @@ module _ (ds fs : List ℕ) (same : length ds ≡ length fs) (i : ℕ) (s : Post
   unfolding takeAll
   takes-end all = rw (all, drop-length)
 
--- ---- a term that is begun, with two arrays of zeros
-
-pub begun-fresh : (mode : ℕ) (recording : Bool) {r : Progressed} {p : Progress}
-    → r ≡ progressed (λ _. fresh mode recording) (begin mode recording) → r ≡ progressed-as.At p
-    → stateOf p (replicate 128 0) (replicate 128 0) ≡ fresh mode recording
-unfolding stateOf progressOf fresh
-begun-fresh mode recording e told =
-    let k = progressed-at (λ _. fresh mode recording) (begin mode recording) e told in
-    ap (λ (p : Progress). stateOf p (replicate 128 0) (replicate 128 0)) (k .2)
-
 -- ---- a list whose questions were all answered yes
 
 module _ (mode : ℕ) (recording : Bool) (announced : ℕ) (ds fs skips postings output : List ℕ) (small : AllBelow (2 ^ 32) fs) {image : List ℕ}
@@ -80,9 +70,6 @@ module _ (mode : ℕ) (recording : Bool) (announced : ℕ) (ds fs skips postings
   listed : (written mode recording ds fs ≡ ok image) × HasRoom mode recording ds fs skips postings output image
   listed = whole-list-writes mode recording ds fs skips postings output .0 (announced-writes mode recording ds fs skips postings output announced .0 e .1)
 
-  writes : WritesList mode recording ds fs skips postings image
-  writes = single-calls-write mode recording ds fs skips postings small (listed .0) (listed .1 .skips-fit) (listed .1 .postings-fit)
-
   -- question 1 among them
   pub term-begins : {r : Progressed} {n : ℕ} → r ≡ progressed (λ _. fresh mode recording) (begin mode recording) → r ≡ progressed-as.Refused n → ⊥
   unfolding begin ask
@@ -91,13 +78,13 @@ module _ (mode : ℕ) (recording : Bool) (announced : ℕ) (ds fs skips postings
       let yes : begin mode recording ≡ ok (keptIn mode recording) = rw known in
       refused≢ok (sym (progressed-refused (λ _. fresh mode recording) (begin mode recording) told refusal) ∙ yes)
 
-  module _ {first : PostingsSerializer} (new : first ≡ fresh mode recording) where
-    from-first : takeAll first ds fs skips postings ≡ ok (writes .areas)
-    from-first = rw new (writes .takes)
+  module _ {first : PostingsSerializer} (begun : Begun mode recording first) where
+    writes : WritesList mode recording first ds fs skips postings image
+    writes = single-calls-write begun ds fs skips postings small (listed .0) (listed .1 .skips-fit) (listed .1 .postings-fit)
 
     -- every document is taken
     pub term-takes : (length ds ≡ length fs) × ((a : Areas) × (takeAll first ds fs skips postings ≡ ok a))
-    term-takes = (written-ok mode recording ds fs small (listed .0) .accepted .as-many, (writes .areas, from-first))
+    term-takes = (written-ok mode recording ds fs small (listed .0) .accepted .as-many, (writes .areas, writes .takes))
 
     -- and closing leaves what the list leaves
     pub term-left : {held : PostingsSerializer} {skips′ postings′ output′ : List ℕ} {r : ClosedIn}
@@ -106,7 +93,7 @@ module _ (mode : ℕ) (recording : Bool) (announced : ℕ) (ds fs skips postings
         → ListedAs mode recording announced ds fs skips postings output skips′ postings′ output′ (r .answer)
     unfolding answered orBefore
     term-left takes closed =
-        let same = ok-same (sym takes ∙ from-first) in
+        let same = ok-same (sym takes ∙ writes .takes) in
         let closing-is = rw (sym own-count, sym same) at (writes .closes output (listed .1 .output-fit)) in
         record {
           answer = closed .answer ∙ rw (closing-is, e);

@@ -23,19 +23,19 @@ use Rattle.format.specs.Accepted.{keptIn, begin, takeDoc, takeDocs, written, Ac
 use Rattle.format.specs.Reading.{soundness}
 use Rattle.format.proofs.Accepted.{known-mode, written-ok}
 use Rattle.format.proofs.Choice.{granted}
-use Rattle.serializer.specs.declared.Accepted.the-variants.{Refused as No}
-use Rattle.serializer.specs.declared.ClosedTerm.{ClosedTerm}
+use Rattle.serializer.specs.declared.Accepted.{Accepted as Answered}
 use Rattle.serializer.specs.declared.PostingsSerializer.{PostingsSerializer}
-use Rattle.serializer.specs.declared.Step.{Step}
 use Rattle.serializer.specs.declared.Written.{Written}
 use Rattle.serializer.specs.declared.Written.the-variants.{Bytes}
-use Rattle.serializer.specs.Writer.{Areas, listing, closing}
-use Rattle.serializer.specs.Calls.{accepted, answered, acceptedNumber, writtenNumbers, Settled, Closed, Listed}
-use Rattle.serializer.proofs.Laws.AnswerTells.{accepted-refused, answered-bytes, answered-refused}
+use Rattle.serializer.specs.Writer.{Areas, listing}
+use Rattle.serializer.specs.Calls.{answered, acceptedNumber, writtenNumbers, Listed}
+use Rattle.serializer.proofs.Laws.AnswerTells.{answered-bytes, answered-refused}
 use Rattle.serializer.proofs.Laws.WholeList.{whole-list-writes}
 use Rattle.segment_postings.specs.Admission.{Meets, MeetsNone}
 use Rattle.segment_postings.proofs.Admission.AdmissionExact.{admission-admits, admission-refuses}
 use Rattle.postings.specs.FirstPromise.{Acceptable}
+use Rattle.postings.specs.WriterCalls.{Hands, Closes}
+use Rattle.postings.proofs.WriterManners.{hands-gives, gives-no, closes-as}
 use Rattle.postings.proofs.WriterNumbers.{listing-numbered, zero-bytes, bytes-numbers, above-no, above-refused}
 
 -- ---- accepted lists
@@ -110,27 +110,18 @@ image-admitted mode count bs e = rw e (admission-admits mode count bs, admission
 
 -- ---- refusals leave all as it was; those of the cursor are `refused-stays` in ThirdPromise.antt
 
-pub document-stays : {o : Outcome Areas} {s : PostingsSerializer} {skips postings skips′ postings′ : List ℕ} {r : Step} {n : ℕ}
-    → Settled o s skips postings skips′ postings′ r → r .answer ≡ No n
-    → (r .state ≡ s) × (skips′ ≡ skips) × (postings′ ≡ postings)
-unfolding orBefore
-document-stays {o} h e =
-    let no = accepted-refused o (h .answer) e in
-    (rw no at (h .state), rw no at (h .skips-after), rw no at (h .postings-after))
+-- a document, in either manner: any answer but 0
+pub refused-document : {d f : ℕ} {a b : Areas} {answer : Answered} → Hands d f a answer b → 0 < acceptedNumber answer → b ≡ a
+refused-document {answer = answer} h above = gives-no (hands-gives h) (above-no answer above)
 
--- a document, by `write_doc`: any answer but 0
-pub refused-document : {o : Outcome Areas} {s : PostingsSerializer} {skips postings skips′ postings′ : List ℕ} {r : Step}
-    → Settled o s skips postings skips′ postings′ r → 0 < acceptedNumber (r .answer)
-    → (r .state ≡ s) × (skips′ ≡ skips) × (postings′ ≡ postings)
-refused-document {r = r} h above = document-stays h (above-no (r .answer) above)
-
--- closing, by `close_term`
-pub refused-closing : (s : PostingsSerializer) (announced : ℕ) (skips postings output : List ℕ) {output′ : List ℕ} {r : ClosedTerm} {n : ℕ}
-    → Closed s announced skips postings output output′ r → 0 < n → writtenNumbers (r .answer) ≡ n ∷ 0 ∷ [] → (r .state ≡ s) × (output′ ≡ output)
+-- closing, in either manner
+pub refused-closing : {announced : ℕ} {a : Areas} {output output′ : List ℕ} {answer : Written} {last : PostingsSerializer} {n : ℕ}
+    → Closes announced a output answer output′ last → 0 < n → writtenNumbers answer ≡ n ∷ 0 ∷ [] → (last ≡ a .state) × (output′ ≡ output)
 unfolding orBefore
-refused-closing s announced skips postings output {r = r} h above e =
-    let no = answered-refused length (closing s announced skips postings output) (h .answer) (above-refused (r .answer) above e) in
-    (rw no at (h .state), rw no at (h .output-after))
+refused-closing {answer = answer} k above e =
+    let c = closes-as k in
+    let no = answered-refused length _ (c .answered-as) (above-refused answer above e) in
+    (c .stays no, rw no at (c .output-after))
 
 -- a whole list, by `write_list`
 pub refused-list : (mode : ℕ) (recording : Bool) (ds fs skips postings output : List ℕ) {skips′ postings′ output′ : List ℕ} {r : Written} {n : ℕ}

@@ -6,4 +6,5 @@ pub mod ThirdPromise
 mod ValueNumbers
 pub mod VisitedBlocks
 pub mod WorkedCalls
+pub mod WriterManners
 mod WriterNumbers

@@ -90,6 +90,12 @@ progressOf s = record {
   «postings_at» = s .«postings_at»;
 }
 
+-- a state behind the call that began a term: the numbers of a fresh one, and two arrays of 128 places that may hold anything
+pub record Begun (mode : ℕ) (recording : Bool) (s : PostingsSerializer) : Type 0 where
+  pub numbers : progressOf s ≡ progressOf (fresh mode recording)
+  pub docs-long : length (s .docs) ≡ 128
+  pub freqs-long : length (s .freqs) ≡ 128
+
 -- what an outcome answers, given the state that a good one has
 unfoldable pub progressed : {A : Type 0} → (A → PostingsSerializer) → Outcome A → Progressed
 unfolding progressOf

@@ -11,7 +11,8 @@ use Rattle.format.specs.Basics.{ok, refused, putAt}
 use Rattle.format.specs.Refusal.{noRoom, countMismatch}
 use Rattle.format.specs.Written.{Parts, blocksOf}
 use Rattle.format.specs.Accepted.{keptIn}
-use Rattle.serializer.specs.Writer.{Areas, fresh, closing, takeAll, acceptedCount}
+use Rattle.serializer.specs.declared.PostingsSerializer.{PostingsSerializer}
+use Rattle.serializer.specs.Writer.{Areas, closing, takeAll, acceptedCount}
 
 -- room for a list's full blocks and their entries in the areas, and for its image in the output
 pub record HasRoom (mode : ℕ) (recording : Bool) (ds fs skips postings output image : List ℕ) : Type 0 where
@@ -25,11 +26,11 @@ acceptedBlocks mode recording ds fs =
     let option : IndexRecordOption = keptIn mode recording in
     blocksOf option (acceptedCount option 0 ds fs / 128) 0 ds fs
 
--- What single calls leave of a list that is written as `image`: its full blocks and their entries at the front of the areas, every
--- other byte as before. Closing under the list's count gives the image if it fits the output
-pub record WritesList (mode : ℕ) (recording : Bool) (ds fs skips postings image : List ℕ) : Type 0 where
+-- What single calls, the first of them on the state `begun`, leave of a list that is written as `image`: its full blocks and their
+-- entries at the front of the areas, every other byte as before. Closing under the list's count gives the image if it fits the output
+pub record WritesList (mode : ℕ) (recording : Bool) (begun : PostingsSerializer) (ds fs skips postings image : List ℕ) : Type 0 where
   pub areas : Areas
-  pub takes : takeAll (fresh mode recording) ds fs skips postings ≡ ok areas
+  pub takes : takeAll begun ds fs skips postings ≡ ok areas
   pub skips-after : areas .skips ≡ putAt 0 (blocksOf (keptIn mode recording) (length ds / 128) 0 ds fs .skips) skips
   pub postings-after : areas .postings ≡ putAt 0 (blocksOf (keptIn mode recording) (length ds / 128) 0 ds fs .postings) postings
   pub closes : (output : List ℕ) → length image ≤ length output

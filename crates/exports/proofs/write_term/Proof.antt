@@ -1,6 +1,6 @@
 -- `exports::write_term` meets its contract: every call says yes, since the questions were all answered so.
 -- Assumes nothing.
-use mathlib.Core.Path.{_≡_}
+use mathlib.Core.Path.{refl, sym, _∙_}
 use Prim.Native.Nat.{_^_}
 use native.Mathlib.Omega.{arith}
 use borrow.Author.Needs.{needs}
@@ -8,9 +8,9 @@ use denote.Ref.{now}
 use lib.ListN.{replicate}
 use Rattle.format.specs.Basics.{AllBelow}
 use Rattle.format.proofs.Lists.{allBelow-of}
-use Rattle.serializer.specs.Calls.{stateOf}
-use Rattle.serializer.specs.Writer.{fresh}
-use Rattle.exports.proofs.EachTaken.{begun-fresh, term-begins, term-takes, term-left}
+use Rattle.serializer.specs.Calls.{stateOf, Begun}
+use Rattle.serializer.proofs.Laws.ByValue.{begun-parts}
+use Rattle.exports.proofs.EachTaken.{term-begins, term-takes, term-left}
 use Rattle.exports.proofs.write_term.Statement.{statement}
 use Rattle.exports.proofs.write_term.Tie as tie
 
@@ -41,15 +41,17 @@ module _ (c : tie.After-first) where
   abbrev begun : tie.After-new-term-in
   begun = c .before .before
 
-  is-fresh : stateOf (c .first .given .0 .0) (replicate 128 0) (replicate 128 0) ≡ fresh (start begun .args .mode) (start begun .args .recording)
-  is-fresh = begun-fresh (start begun .args .mode) (start begun .args .recording) (begun .new-term-in .ensures) (c .first .given .1)
+  just-begun : Begun (start begun .args .mode) (start begun .args .recording) (stateOf (c .first .given .0 .0) (replicate 128 0) (replicate 128 0))
+  just-begun =
+      begun-parts (start begun .args .mode) (start begun .args .recording) (replicate 128 0) (replicate 128 0)
+      (sym (c .first .given .1) ∙ begun .new-term-in .ensures) refl refl
 
 write-each-requires : tie.Need-write-each-requires
 write-each-requires c κs =
     let first = c .before .before .before .before .before in
     let term = begun first in
     let a = start term .args in
-    term-takes (a .mode) (a .recording) (a .announced) _ _ _ _ (now (a .output)) (small term) (start term .pre .1) (is-fresh first)
+    term-takes (a .mode) (a .recording) (a .announced) _ _ _ _ (now (a .output)) (small term) (start term .pre .1) (just-begun first)
 
 close-term-in-requires : tie.Need-close-term-in-requires
 close-term-in-requires c κs = search needs
@@ -70,7 +72,7 @@ returns-2 c =
     let first = wrote .before .before .before .before .before .before in
     let term = begun first in
     let a = start term .args in
-    term-left (a .mode) (a .recording) (a .announced) _ _ _ _ _ (small term) (start term .pre .1) (is-fresh first)
+    term-left (a .mode) (a .recording) (a .announced) _ _ _ _ _ (small term) (start term .pre .1) (just-begun first)
     (wrote .write-each .ensures) (closed .close-term-in .ensures)
 
 pub write-term-spec : {M : Type 1} → statement M

@@ -1,10 +1,13 @@
 -- A call on a whole state over one on its numbers and arrays: put together again, what that call leaves is what the definition leaves.
+-- A term that either begins is one just begun.
 -- Assumes nothing.
+use mathlib.Core.Bool.{Bool}
 use mathlib.Core.List.{List}
-use mathlib.Core.Path.{_≡_, sym, ap, subst, _∙_}
+use mathlib.Core.Path.{_≡_, refl, sym, ap, subst, _∙_}
 use Prim.Native.Nat.{ℕ}
 use lib.ListN.{length}
 use Rattle.format.specs.Basics.{Outcome, ok, orBefore}
+use Rattle.format.specs.Accepted.{begin}
 use Rattle.serializer.specs.declared.Accepted.the-variants.{Yes, Refused as No}
 use Rattle.serializer.specs.declared.ClosedIn.{ClosedIn}
 use Rattle.serializer.specs.declared.PostingsSerializer.{PostingsSerializer}
@@ -12,7 +15,7 @@ use Rattle.serializer.specs.declared.Progress.{Progress}
 use Rattle.serializer.specs.declared.Progressed.{Progressed}
 use Rattle.serializer.specs.declared.Progressed.the-variants as progressed-as
 use Rattle.serializer.specs.declared.Written.the-variants.{Bytes, Refused}
-use Rattle.serializer.specs.Calls.{progressOf, stateOf, SettledIn, Settled, TookIn, ClosedFrom, Closed}
+use Rattle.serializer.specs.Calls.{progressOf, progressed, stateOf, Begun, SettledIn, Settled, TookIn, ClosedFrom, Closed}
 use Rattle.serializer.specs.Writer.{Areas, fresh, closing}
 use Rattle.serializer.proofs.Laws.AnswerTells.{progressed-at, progressed-refused, answered-bytes, answered-refused, answers-yes, answers-no}
 
@@ -20,6 +23,21 @@ use Rattle.serializer.proofs.Laws.AnswerTells.{progressed-at, progresse
 whole-again : (s : PostingsSerializer) {p : Progress} → p ≡ progressOf s → stateOf p (s .docs) (s .freqs) ≡ s
 unfolding stateOf progressOf
 whole-again s e = ap (λ (p : Progress). stateOf p (s .docs) (s .freqs)) e
+
+-- ---- a term just begun
+
+pub begun-whole : (mode : ℕ) (recording : Bool) → Begun mode recording (fresh mode recording)
+unfolding fresh
+begun-whole mode recording = record { numbers = refl; docs-long = refl; freqs-long = refl }
+
+pub begun-parts : (mode : ℕ) (recording : Bool) {p : Progress} (docs freqs : List ℕ) → progressed-as.At p ≡ progressed (λ _. fresh mode recording) (begin mode recording)
+    → length docs ≡ 128 → length freqs ≡ 128 → Begun mode recording (stateOf p docs freqs)
+unfolding stateOf progressOf
+begun-parts mode recording docs freqs e docs-long freqs-long = record {
+  numbers = progressed-at (λ _. fresh mode recording) (begin mode recording) e refl .2;
+  docs-long = docs-long;
+  freqs-long = freqs-long;
+}
 
 -- ---- a document
 
@@ -55,6 +73,12 @@ module _ {o : Outcome Areas} {docs freqs skips postings docs′ freqs′ skips�
   settled-no told =
       let e = progressed-refused (λ (a : Areas). a .state) o (settled .answer) told in
       record { answer = answers-no e; state = rw e; skips-after = settled .skips-after; postings-after = settled .postings-after }
+
+  pub arrays-stay : {n : ℕ} → r ≡ progressed-as.Refused n → (docs′ ≡ docs) × (freqs′ ≡ freqs)
+  unfolding orBefore
+  arrays-stay told =
+      let e = progressed-refused (λ (a : Areas). a .state) o (settled .answer) told in
+      (rw e at (settled .docs-after), rw e at (settled .freqs-after))
 
 -- ---- closing
 

@@ -1,4 +1,4 @@
--- What is known behind single calls that were all answered yes, from a fresh state on: the documents are accepted together, their full
+-- What is known behind single calls that were all answered yes, from a term just begun on: the documents are accepted together, their full
 -- blocks are in the areas, and closing puts together their image. One document more is answered as the definitions ask it behind them,
 -- and 15 where the blocks with it don't fit: handed in with the others, it is the last of a longer list of such calls.
 -- Assumes nothing.
@@ -16,14 +16,14 @@ use Rattle.format.specs.Written.{image}
 use Rattle.format.specs.Accepted.{keptIn, takeDoc, takeDocs}
 use Rattle.format.proofs.Outcome.{ok-same}
 use Rattle.serializer.specs.declared.PostingsSerializer.{PostingsSerializer}
-use Rattle.serializer.specs.Calls.{accepted}
+use Rattle.serializer.specs.Calls.{accepted, Begun}
 use Rattle.serializer.specs.Whole.{fullBlocks, blocksFit}
-use Rattle.serializer.specs.Writer.{Areas, fresh, optionOf, taking, closing, takeAll}
+use Rattle.serializer.specs.Writer.{Areas, optionOf, taking, closing, takeAll}
 use Rattle.serializer.proofs.document.OneDocument.{nextLeast, call-refused}
 use Rattle.serializer.proofs.SingleCalls.BlocksAhead.{room}
 use Rattle.serializer.proofs.SingleCalls.AllDocuments.{Ended, Answers, answers-room, answers-ok, answers-taken}
 use Rattle.serializer.specs.Lists.{acceptedBlocks}
-use Rattle.serializer.proofs.SingleCalls.WritesList.{accepted-all, fresh-option, fresh-next, answers, ended-areas, ended-closes}
+use Rattle.serializer.proofs.SingleCalls.WritesList.{accepted-all, begun-skips, begun-postings, begun-option, begun-next, answers, ended-areas, ended-closes}
 
 -- ---- one more at the end
 
@@ -78,24 +78,24 @@ pub record TakenAll (mode : ℕ) (recording : Bool) (ds fs skips postings : List
       ≡ accepted (andThen (takeDoc (keptIn mode recording) least d f) λ next.
       ask (blocksFit (keptIn mode recording) (ds ++ (d ∷ [])) (fs ++ (f ∷ [])) skips postings) noRoom λ _. ok next)
 
-module _ (mode : ℕ) (recording : Bool) (skips postings : List ℕ) (known : mode ≤ 1) where
+module _ {mode : ℕ} {recording : Bool} {s : PostingsSerializer} (begun : Begun mode recording s) (skips postings : List ℕ) (known : mode ≤ 1) where
   abbrev option : IndexRecordOption
   option = keptIn mode recording
 
   room-is : (ds fs : List ℕ) {least : ℕ} → takeDocs option 0 ds fs ≡ ok least
-      → room (acceptedBlocks mode recording ds fs) (fresh mode recording) skips postings ≡ blocksFit option ds fs skips postings
-  unfolding fresh blocksFit fullBlocks
-  room-is ds fs t = rw (accepted-all option 0 ds fs t)
+      → room (acceptedBlocks mode recording ds fs) s skips postings ≡ blocksFit option ds fs skips postings
+  unfolding blocksFit fullBlocks
+  room-is ds fs t = rw (accepted-all option 0 ds fs t, begun-skips begun, begun-postings begun)
 
   -- what the calls answer where the documents are accepted together
   accepted-calls : (ds fs : List ℕ) → AllBelow (2 ^ 32) fs → length ds ≡ length fs → {least : ℕ} → takeDocs option 0 ds fs ≡ ok least
-      → Answers (Ended (fresh mode recording) ds fs skips postings) (blocksFit option ds fs skips postings) (ok least)
-      (takeAll (fresh mode recording) ds fs skips postings)
-  accepted-calls ds fs small as-many t = rw (room-is ds fs t, t) at (answers mode recording ds fs skips postings small known as-many)
+      → Answers (Ended s ds fs skips postings) (blocksFit option ds fs skips postings) (ok least)
+      (takeAll s ds fs skips postings)
+  accepted-calls ds fs small as-many t = rw (room-is ds fs t, t) at (answers begun ds fs skips postings small known as-many)
 
   module _ (ds fs : List ℕ) (small : AllBelow (2 ^ 32) fs) (as-many : length ds ≡ length fs) where
     -- one document more, behind calls that ended
-    module _ {r : Outcome Areas} (ended : Ended (fresh mode recording) ds fs skips postings r) (all : takeAll (fresh mode recording) ds fs skips postings ≡ r)
+    module _ {r : Outcome Areas} (ended : Ended s ds fs skips postings r) (all : takeAll s ds fs skips postings ≡ r)
         {least : ℕ} (t : takeDocs option 0 ds fs ≡ ok least) (d f : ℕ) (below : f < 2 ^ 32) where
       abbrev ds′ : List ℕ
       ds′ = ds ++ (d ∷ [])
@@ -109,17 +109,17 @@ module _ (mode : ℕ) (recording : Bool) (skips postings : List ℕ) (known : mo
       -- it is asked as the definitions ask it
       asked : takeDoc (optionOf (ended .areas .state)) (nextLeast (ended .areas .state)) d f ≡ takeDoc option least d f
       asked =
-          let next = rw (fresh-option, fresh-next) at (ended .next-is) in
-          rw (ended .option-is, fresh-option, ok-same (sym next ∙ t))
+          let next = rw (begun-option begun, begun-next begun) at (ended .next-is) in
+          rw (ended .option-is, begun-option begun, ok-same (sym next ∙ t))
 
       -- with it the calls are those of a longer list
-      longer : takeAll (fresh mode recording) ds′ fs′ skips postings ≡ taken
+      longer : takeAll s ds′ fs′ skips postings ≡ taken
       unfolding andThen
-      longer = rw (all-last (fresh mode recording) ds fs skips postings d f as-many, all, ended .answer)
+      longer = rw (all-last s ds fs skips postings d f as-many, all, ended .answer)
 
       longer-calls : {next : ℕ} → takeDoc option least d f ≡ ok next
-          → Answers (Ended (fresh mode recording) ds′ fs′ skips postings) (blocksFit option ds′ fs′ skips postings) (ok next)
-          (takeAll (fresh mode recording) ds′ fs′ skips postings)
+          → Answers (Ended s ds′ fs′ skips postings) (blocksFit option ds′ fs′ skips postings) (ok next)
+          (takeAll s ds′ fs′ skips postings)
       unfolding andThen
       longer-calls e =
           accepted-calls ds′ fs′ (below-last (2 ^ 32) fs f small below) (rw (length-append ds (d ∷ []), length-append fs (f ∷ []), as-many))
@@ -139,13 +139,13 @@ module _ (mode : ℕ) (recording : Bool) (skips postings : List ℕ) (known : mo
       document-more (refused n) e = rw (call-refused (ended .held) d f (asked ∙ e))
       document-more (ok next) e = room-for e _ refl
 
-    pub taken-all : {a : Areas} → takeAll (fresh mode recording) ds fs skips postings ≡ ok a → TakenAll mode recording ds fs skips postings a
+    pub taken-all : {a : Areas} → takeAll s ds fs skips postings ≡ ok a → TakenAll mode recording ds fs skips postings a
     unfolding fullBlocks
     taken-all all =
-        let k = answers-taken (answers mode recording ds fs skips postings small known as-many) all in
+        let k = answers-taken (answers begun ds fs skips postings small known as-many) all in
         let ended = k .3 in
         let every = accepted-all option 0 ds fs (k .2) in
-        let areas = ended-areas mode recording ds fs skips postings small known as-many ended every in
+        let areas = ended-areas begun ds fs skips postings small known as-many ended every in
         rw (sym (ok-same (sym (ended .answer) ∙ all)))
         (record {
           least = k .0;
@@ -153,6 +153,6 @@ module _ (mode : ℕ) (recording : Bool) (skips postings : List ℕ) (known : mo
           fit = sym (room-is ds fs (k .2)) ∙ k .1;
           skips-after = areas .0;
           postings-after = areas .1;
-          closes = ended-closes mode recording ds fs skips postings small known as-many ended every;
+          closes = ended-closes begun ds fs skips postings small known as-many ended every;
           one-more = λ d f below. document-more ended refl (k .2) d f below _ refl;
         })

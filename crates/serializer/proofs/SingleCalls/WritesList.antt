@@ -1,11 +1,11 @@
--- A list whose documents are handed in one by one. From a fresh state the calls go on as long as the definitions accept a document and
--- the areas have room for its block; behind the last one the areas hold the full blocks and their entries, and the state the tail, so
--- that closing puts together the image.
+-- A list whose documents are handed in one by one. From a term just begun, whatever its arrays hold, the calls go on as long as the
+-- definitions accept a document and the areas have room for its block; behind the last one the areas hold the full blocks and their
+-- entries, and the state the tail, so that closing puts together the image.
 -- Assumes nothing.
 use mathlib.Core.Bool.{Bool, true, false, and-false}
 use mathlib.Core.List.{List, [], _∷_, _++_, append-nil}
 use mathlib.Core.Logic.{_≢_, _⊎_, inl, inr}
-use mathlib.Core.Path.{_≡_, refl, sym, _∙_}
+use mathlib.Core.Path.{_≡_, refl, sym, ap, _∙_}
 use Prim.Native.Nat.{ℕ, suc, _+_, _-_, _/_, _≤_, _<_, _^_}
 use native.Mathlib.Nat.{zero-add, le-trans}
 use native.Mathlib.Numerals.{one-add}
@@ -14,7 +14,7 @@ use borrow.Author.Tests.{le-leb, lt-leb, eq-eqb, ne-eqb}
 use lib.Dec.{eqb}
 use lib.ListN.{length, take}
 use Rattle.format.specs.declared.IndexRecordOption.{IndexRecordOption}
-use Rattle.format.specs.Basics.{Outcome, ok, refused, andThen, ask, putAt, fitsAt, AllBelow, orBefore}
+use Rattle.format.specs.Basics.{Outcome, ok, refused, andThen, ask, choose, putAt, fitsAt, AllBelow, orBefore}
 use Rattle.format.specs.Refusal.{noRoom, countMismatch, stateBroken}
 use Rattle.format.specs.Values.{rising, countable}
 use Rattle.format.specs.Written.{Parts, blocksOf, tailOf, imageWith, image}
@@ -23,6 +23,8 @@ use Rattle.format.proofs.Outcome.{refused≢ok, andThen-ok}
 use Rattle.format.proofs.ImageParts.{headed, image-is}
 use Rattle.format.proofs.Accepted.{known-mode, written-ok}
 use Rattle.serializer.specs.declared.PostingsSerializer.{PostingsSerializer}
+use Rattle.serializer.specs.declared.Progress.{Progress}
+use Rattle.serializer.specs.Calls.{progressOf, Begun}
 use Rattle.serializer.specs.Lists.{acceptedBlocks, WritesList}
 use Rattle.serializer.specs.Writer.{Areas, fresh, optionOf, waitingDocs, waitingFreqs, firstLeast, leastAfter}
 use Rattle.serializer.specs.Writer.{inBounds, imageOf, closing, takeAll, acceptedCount}
@@ -79,58 +81,74 @@ unfolding andThen
 andThen-refused (ok a) f e = absurd (refused≢ok (sym e))
 andThen-refused (refused m) f e = cc
 
--- ---- a fresh state
+-- ---- a term just begun
 
-module _ (mode : ℕ) (recording : Bool) where
-  pub fresh-option : optionOf (fresh mode recording) ≡ keptIn mode recording
-  unfolding optionOf fresh
-  fresh-option = refl
+module _ {mode : ℕ} {recording : Bool} {s : PostingsSerializer} (begun : Begun mode recording s) where
+  begun-mode : s .mode ≡ mode
+  unfolding progressOf fresh
+  begun-mode = ap (λ (p : Progress). p .mode) (begun .numbers)
 
-  fresh-none : fresh mode recording .waiting ≡ 0
-  unfolding fresh
-  fresh-none = refl
+  begun-none : s .waiting ≡ 0
+  unfolding progressOf fresh
+  begun-none = ap (λ (p : Progress). p .waiting) (begun .numbers)
 
-  fresh-least : firstLeast (fresh mode recording) ≡ 0
-  unfolding firstLeast fresh
-  fresh-least = refl
+  begun-taken : s .taken ≡ 0
+  unfolding progressOf fresh
+  begun-taken = ap (λ (p : Progress). p .taken) (begun .numbers)
 
-  fresh-docs : waitingDocs (fresh mode recording) ≡ []
-  unfolding waitingDocs fresh
-  fresh-docs = refl
+  pub begun-skips : s .«skips_at» ≡ 0
+  unfolding progressOf fresh
+  begun-skips = ap (λ (p : Progress). p .«skips_at») (begun .numbers)
 
-  fresh-freqs : waitingFreqs (fresh mode recording) ≡ []
-  unfolding waitingFreqs fresh
-  fresh-freqs = refl
+  pub begun-postings : s .«postings_at» ≡ 0
+  unfolding progressOf fresh
+  begun-postings = ap (λ (p : Progress). p .«postings_at») (begun .numbers)
 
-  pub fresh-next : nextLeast (fresh mode recording) ≡ 0
+  pub begun-option : optionOf s ≡ keptIn mode recording
+  unfolding optionOf progressOf fresh
+  begun-option = ap (λ (p : Progress). keptIn (p .mode) (p .recording)) (begun .numbers)
+
+  begun-least : firstLeast s ≡ 0
+  unfolding firstLeast choose
+  begun-least = rw (begun-none, begun-taken)
+
+  begun-docs : waitingDocs s ≡ []
+  unfolding waitingDocs
+  begun-docs = rw begun-none
+
+  begun-freqs : waitingFreqs s ≡ []
+  unfolding waitingFreqs
+  begun-freqs = rw begun-none
+
+  pub begun-next : nextLeast s ≡ 0
   unfolding leastAfter
-  fresh-next = rw (fresh-docs, fresh-least)
+  begun-next = rw (begun-docs, begun-least)
 
-  fresh-held : (skips postings : List ℕ) → mode ≤ 1 → Held (fresh mode recording) skips postings
-  unfolding fresh rising countable
-  fresh-held skips postings known =
+  begun-held : (skips postings : List ℕ) → mode ≤ 1 → Held s skips postings
+  unfolding rising countable
+  begun-held skips postings known =
       record {
-        docs-long = refl;
-        freqs-long = refl;
-        few = omega arith;
-        rises = rw fresh-docs;
-        counts = λ _. rw fresh-freqs;
-        placed = omega arith;
-        least-most = rw fresh-next (omega arith);
-        skips-within = omega arith;
-        postings-within = omega arith;
-        mode-known = known;
+        docs-long = begun .docs-long;
+        freqs-long = begun .freqs-long;
+        few = omega (arith, begun-none);
+        rises = rw begun-docs;
+        counts = λ _. rw begun-freqs;
+        placed = omega (arith, begun-none, begun-taken);
+        least-most = rw begun-next (omega arith);
+        skips-within = omega (arith, begun-skips);
+        postings-within = omega (arith, begun-postings);
+        mode-known = omega (arith, begun-mode);
       }
 
-  fresh-ahead : (ds fs : List ℕ) (F : Maker)
-      → ahead F (fresh mode recording) ds fs ≡ F (keptIn mode recording) (acceptedCount (keptIn mode recording) 0 ds fs / 128) 0 ds fs
+  begun-ahead : (ds fs : List ℕ) (F : Maker)
+      → ahead F s ds fs ≡ F (keptIn mode recording) (acceptedCount (keptIn mode recording) 0 ds fs / 128) 0 ds fs
   unfolding ahead
-  fresh-ahead ds fs F = rw (fresh-next, fresh-least, fresh-docs, fresh-freqs, fresh-option, fresh-none, zero-add)
+  begun-ahead ds fs F = rw (begun-next, begun-least, begun-docs, begun-freqs, begun-option, begun-none, zero-add)
 
 -- ---- all documents, from there on
 
-module _ (mode : ℕ) (recording : Bool) (ds fs skips postings : List ℕ) (small : AllBelow (2 ^ 32) fs) (known : mode ≤ 1)
-    (as-many : length ds ≡ length fs) where
+module _ {mode : ℕ} {recording : Bool} {s : PostingsSerializer} (begun : Begun mode recording s) (ds fs skips postings : List ℕ)
+    (small : AllBelow (2 ^ 32) fs) (known : mode ≤ 1) (as-many : length ds ≡ length fs) where
   abbrev option : IndexRecordOption
   option = keptIn mode recording
 
@@ -142,35 +160,33 @@ module _ (mode : ℕ) (recording : Bool) (ds fs skips postings : List ℕ) (smal
   written-is = rw (known-mode _ known, eq-eqb _ _ as-many)
 
   pub answers :
-      Answers (Ended (fresh mode recording) ds fs skips postings) (room blocks (fresh mode recording) skips postings)
-      (takeDocs option 0 ds fs) (takeAll (fresh mode recording) ds fs skips postings)
+      Answers (Ended s ds fs skips postings) (room blocks s skips postings)
+      (takeDocs option 0 ds fs) (takeAll s ds fs skips postings)
   answers =
-      rw (fresh-ahead, fresh-next, fresh-option)
-      at (all-calls (fresh mode recording) ds fs skips postings (fresh-held mode recording skips postings known) small as-many)
+      rw (begun-ahead begun, begun-next begun, begun-option begun)
+      at (all-calls s ds fs skips postings (begun-held begun skips postings known) small as-many)
 
   room-there : length (blocks .skips) ≤ length skips → length (blocks .postings) ≤ length postings
-      → room blocks (fresh mode recording) skips postings ≡ true
-  unfolding fresh fitsAt
-  room-there a b = rw (zero-add (length (blocks .skips)), zero-add (length (blocks .postings)), le-leb _ _ a, le-leb _ _ b)
+      → room blocks s skips postings ≡ true
+  unfolding fitsAt
+  room-there a b = rw (begun-skips begun, begun-postings begun, zero-add (length (blocks .skips)), zero-add (length (blocks .postings)), le-leb _ _ a, le-leb _ _ b)
 
   room-missing : (length skips < length (blocks .skips)) ⊎ (length postings < length (blocks .postings))
-      → room blocks (fresh mode recording) skips postings ≡ false
-  unfolding fresh fitsAt
-  room-missing (inl a) = rw (zero-add (length (blocks .skips)), lt-leb _ _ a)
-  room-missing (inr b) = rw (zero-add (length (blocks .skips)), zero-add (length (blocks .postings)), lt-leb _ _ b, and-false)
+      → room blocks s skips postings ≡ false
+  unfolding fitsAt
+  room-missing (inl a) = rw (begun-skips begun, begun-postings begun, zero-add (length (blocks .skips)), lt-leb _ _ a)
+  room-missing (inr b) = rw (begun-skips begun, begun-postings begun, zero-add (length (blocks .skips)), zero-add (length (blocks .postings)), lt-leb _ _ b, and-false)
 
-  module _ {r : Outcome Areas} (ended : Ended (fresh mode recording) ds fs skips postings r)
+  module _ {r : Outcome Areas} (ended : Ended s ds fs skips postings r)
       (all : acceptedCount option 0 ds fs ≡ length ds) where
     taken-all : ended .areas .state .taken ≡ length ds
-    unfolding fresh
-    taken-all = ended .taken ∙ zero-add (length ds)
+    taken-all = ended .taken ∙ rw (begun-taken begun, zero-add)
 
     -- the areas hold the image's parts
     ended-image : imageOf (ended .areas .state) (ended .areas .skips) (ended .areas .postings) ≡ image option ds fs
-    unfolding fresh
     ended-image =
-        let skips-are = rw (append-nil, fresh-ahead, all) at (ended .skips-wrote .holds) in
-        let postings-are = rw (fresh-ahead, all) at (ended .postings-wrote .holds) in
+        let skips-are = rw (append-nil, begun-ahead begun, begun-skips begun, all) at (ended .skips-wrote .holds) in
+        let postings-are = rw (begun-ahead begun, begun-postings begun, all) at (ended .postings-wrote .holds) in
         rw (imageOf-is, image-is, skips-are, postings-are, taken-all)
 
     pub ended-closes : (announced : ℕ) (output : List ℕ)
@@ -183,11 +199,13 @@ module _ (mode : ℕ) (recording : Bool) (ds fs skips postings : List ℕ) (smal
     -- the areas have the full blocks and their entries at the front
     pub ended-areas : (ended .areas .skips ≡ putAt 0 (blocksOf option (length ds / 128) 0 ds fs .skips) skips)
         × (ended .areas .postings ≡ putAt 0 (blocksOf option (length ds / 128) 0 ds fs .postings) postings)
-    unfolding fresh
-    ended-areas = (rw (fresh-ahead, all) at (ended .skips-wrote .put), rw (fresh-ahead, all) at (ended .postings-wrote .put))
+    ended-areas = (
+      rw (begun-ahead begun, begun-skips begun, all) at (ended .skips-wrote .put),
+      rw (begun-ahead begun, begun-postings begun, all) at (ended .postings-wrote .put),
+    )
 
-    ended-writes : takeAll (fresh mode recording) ds fs skips postings ≡ r
-        → WritesList mode recording ds fs skips postings (image option ds fs)
+    ended-writes : takeAll s ds fs skips postings ≡ r
+        → WritesList mode recording s ds fs skips postings (image option ds fs)
     unfolding ask fitsAt
     ended-writes e =
         record {
@@ -203,7 +221,7 @@ module _ (mode : ℕ) (recording : Bool) (ds fs skips postings : List ℕ) (smal
   calls-write : {bytes : List ℕ} → written mode recording ds fs ≡ ok bytes → bytes ≡ image option ds fs
       → length (blocksOf option (length ds / 128) 0 ds fs .skips) ≤ length skips
       → length (blocksOf option (length ds / 128) 0 ds fs .postings) ≤ length postings
-      → WritesList mode recording ds fs skips postings bytes
+      → WritesList mode recording s ds fs skips postings bytes
   calls-write e same a b =
       let t = andThen-ok (takeDocs option 0 ds fs) (λ _. ok (image option ds fs)) (sym written-is ∙ e) in
       let all : acceptedCount option 0 ds fs ≡ length ds = accepted-all option 0 ds fs (t .1) in
@@ -214,7 +232,7 @@ module _ (mode : ℕ) (recording : Bool) (ds fs skips postings : List ℕ) (smal
   pub single-calls-refuse : {n : ℕ} → written mode recording ds fs ≡ refused n
       → length (acceptedBlocks mode recording ds fs .skips) ≤ length skips
       → length (acceptedBlocks mode recording ds fs .postings) ≤ length postings
-      → takeAll (fresh mode recording) ds fs skips postings ≡ refused n
+      → takeAll s ds fs skips postings ≡ refused n
   single-calls-refuse e a b =
       answers-refused answers (room-there a b) (andThen-refused _ (λ _. image option ds fs) (sym written-is ∙ e))
 
@@ -222,7 +240,7 @@ module _ (mode : ℕ) (recording : Bool) (ds fs skips postings : List ℕ) (smal
   pub single-calls-refuse-alike : {n : ℕ} → written mode recording ds fs ≡ refused n
       → length (blocksOf (keptIn mode recording) (length ds / 128) 0 ds fs .skips) ≤ length skips
       → length (blocksOf (keptIn mode recording) (length ds / 128) 0 ds fs .postings) ≤ length postings
-      → takeAll (fresh mode recording) ds fs skips postings ≡ refused n
+      → takeAll s ds fs skips postings ≡ refused n
   single-calls-refuse-alike e a b =
       let some = accepted-le option 0 ds fs in
       let fewer = blocks-fewer option (acceptedCount option 0 ds fs / 128) (length ds / 128) 0 ds fs (omega arith) (omega arith) in
@@ -232,15 +250,16 @@ module _ (mode : ℕ) (recording : Bool) (ds fs skips postings : List ℕ) (smal
   pub single-calls-no-room :
       (length skips < length (acceptedBlocks mode recording ds fs .skips))
       ⊎ (length postings < length (acceptedBlocks mode recording ds fs .postings))
-      → takeAll (fresh mode recording) ds fs skips postings ≡ refused noRoom
+      → takeAll s ds fs skips postings ≡ refused noRoom
   single-calls-no-room short = answers-room answers (room-missing short)
 
 -- Promise 2 of the order, "a written list", for single calls; and the writer never answers 15 where the room is there
-pub single-calls-write : (mode : ℕ) (recording : Bool) (ds fs skips postings : List ℕ) {bytes : List ℕ} → AllBelow (2 ^ 32) fs
+pub single-calls-write : {mode : ℕ} {recording : Bool} {s : PostingsSerializer} → Begun mode recording s → (ds fs skips postings : List ℕ) {bytes : List ℕ}
+    → AllBelow (2 ^ 32) fs
     → written mode recording ds fs ≡ ok bytes
     → length (blocksOf (keptIn mode recording) (length ds / 128) 0 ds fs .skips) ≤ length skips
     → length (blocksOf (keptIn mode recording) (length ds / 128) 0 ds fs .postings) ≤ length postings
-    → WritesList mode recording ds fs skips postings bytes
-single-calls-write mode recording ds fs skips postings small e =
+    → WritesList mode recording s ds fs skips postings bytes
+single-calls-write {mode} {recording} begun ds fs skips postings small e =
     let w = written-ok mode recording ds fs small e in
-    calls-write mode recording ds fs skips postings small (w .mode-known) (w .accepted .as-many) e (w .bytes)
+    calls-write begun ds fs skips postings small (w .mode-known) (w .accepted .as-many) e (w .bytes)
