@@ -3,21 +3,22 @@
 -- question. Ids are sums of differences, so where no difference is 0 they rise, and the last one says whether all lie below TERMINATED.
 -- Assumes nothing.
 use mathlib.Core.Path.{_≡_, refl, sym, ap, ap₂, _∙_}
-use mathlib.Core.Bool.{Bool, true, false, false≢true, and-true, and-false, _&&_ as and, and-eq-true-iff}
-use mathlib.Core.List.{List, [], _∷_, map}
+use mathlib.Core.Bool.{Bool, true, false, not, false≢true, and-true, and-false, _&&_ as and, and-eq-true-iff}
+use mathlib.Core.List.{List, [], _∷_, _++_, map}
 use Prim.Native.Nat.{ℕ, zero, suc, _+_, _-_, _%_, _^_, _≤_, _<_}
 use native.Mathlib.Nat.{add-zero, zero-add, add-sub-cancel, zero-lt-suc}
 use native.Mathlib.Numerals.{add-one}
 use native.Mathlib.Omega.{arith}
 use lib.Dec.{leb, ltb}
-use lib.ListN.{length}
+use lib.ListN.{length, take, drop}
 use borrow.Author.Tests.{le-leb, lt-leb, lt-ltb, leb-true, ltb-true, ltb-false, ne-eqb}
 use Rattle.format.specs.Basics.{choose, lastOf, TERMINATED}
 use Rattle.format.specs.Model.{member}
 use Rattle.format.specs.Values.{idsFrom, ids, restored, rising, reduction, origin}
 use Rattle.format.proofs.Lists.{allBelow-le}
 use Rattle.format.proofs.Values.{rising-below}
-use Rattle.compression.specs.Restored.{idsBehind, inOrder, firstDifference, asDifferences}
+use Rattle.compression.specs.declared.values.Restored.{Restored}
+use Rattle.compression.specs.Restored.{idsBehind, inOrder, firstDifference, asDifferences, risen, inPlace, ending, sumsBehind, foundZero, DocsRestored}
 use Rattle.compression.proofs.Frequencies.{kept-below}
 
 pub length-idsBehind : (least : ℕ) (ds : List ℕ) → length (idsBehind least ds) ≡ length ds
@@ -183,3 +184,55 @@ in-order-rising least (d ∷ ds) h =
 pub ids-kept : (least : ℕ) (ds : List ℕ) → inOrder least ds ≡ true → map (λ d. d % 2 ^ 32) (idsBehind least ds) ≡ idsBehind least ds
 ids-kept least ds h =
     kept-below (idsBehind least ds) (allBelow-le (idsBehind least ds) (omega arith) (rising-below least (idsBehind least ds) (in-order-rising least ds h)))
+
+-- ---- what `restore_docs` leaves
+
+-- where no difference is 0 the sums are the ids
+sums-are : (least : ℕ) (ds : List ℕ) → member 0 ds ≡ false → sumsBehind least ds ≡ idsBehind least ds
+unfolding sumsBehind idsBehind member
+sums-are least [] h = refl
+sums-are zero (zero ∷ ds) h = absurd (false≢true (sym h))
+sums-are zero (suc d ∷ ds) h =
+    let less : suc d - 1 ≡ d = omega arith in
+    rw (behind-first (suc d) ds, less, ids-first d ds) (ap (λ (l : List ℕ). d ∷ l) (rw add-one at (sym (plain-same d ds))))
+sums-are (suc before) (d ∷ ds) h = rw add-one at (sym (plain-same before (d ∷ ds)))
+
+-- .. and question 6 is answered by the last one
+ends-as : (least : ℕ) (ds : List ℕ) → member 0 ds ≡ false → ending (lastOf 0 (idsBehind least ds)) ≡ risen least ds
+unfolding ending risen choose idsBehind inOrder lastOf
+ends-as least [] h = refl
+ends-as least (d ∷ ds) h = rw (in-order-last 0 least (d ∷ ds) (zero-lt-suc _) h)
+
+module _ {least n : ℕ} {nonzero : Bool} {entry exit : List ℕ} {answer : Restored} (r : DocsRestored least n nonzero entry exit answer)
+    (known : nonzero ≡ true → member 0 (take n entry) ≡ false) where
+  abbrev ds : List ℕ
+  ds = take n entry
+
+  -- a 0 that is there is found
+  finds : member 0 ds ≡ true → foundZero nonzero ds ≡ true
+  unfolding foundZero
+  finds some = go nonzero refl
+    where
+      go : (t : Bool) → nonzero ≡ t → and (not t) (member 0 ds) ≡ true
+      go true e = absurd (false≢true (sym (known e) ∙ some))
+      go false e = some
+
+  finds-none : member 0 ds ≡ false → foundZero nonzero ds ≡ false
+  unfolding foundZero
+  finds-none none = rw none (and-false (not nonzero))
+
+  pub restored-answers : answer ≡ risen least ds
+  unfolding choose risen
+  restored-answers = go (member 0 ds) refl
+    where
+      go : (t : Bool) → member 0 ds ≡ t → answer ≡ risen least ds
+      go true some = r .answered ∙ rw (finds some, zero-out-of-order least ds some)
+      go false none = r .answered ∙ rw (finds-none none, sums-are least ds none) (ends-as least ds none)
+
+  pub restored-ids : inOrder least ds ≡ true → exit ≡ idsBehind least ds ++ drop n entry
+  unfolding choose inPlace
+  restored-ids h = go (member 0 ds) refl
+    where
+      go : (t : Bool) → member 0 ds ≡ t → exit ≡ idsBehind least ds ++ drop n entry
+      go true some = absurd (false≢true (sym (zero-out-of-order least ds some) ∙ h))
+      go false none = r .left ∙ rw (finds-none none, sums-are least ds none, ids-kept least ds h)

@@ -1,7 +1,7 @@
 -- What restoring a block's values in place answers and leaves.
 -- Assumes nothing.
 use mathlib.Core.Path.{_≡_}
-use mathlib.Core.Bool.{Bool, true, _&&_ as and}
+use mathlib.Core.Bool.{Bool, true, not, _&&_ as and}
 use mathlib.Core.List.{List, [], _∷_, _++_, map}
 use Prim.Native.Nat.{ℕ, zero, suc, _+_, _-_, _%_, _^_}
 use lib.Dec.{leb, ltb}
@@ -9,6 +9,7 @@ use lib.ListN.{take, drop}
 use Rattle.compression.specs.declared.values.Restored.{Restored}
 use Rattle.compression.specs.declared.values.Restored.the-variants.{Rising, NotRising}
 use Rattle.format.specs.Basics.{choose, lastOf, TERMINATED}
+use Rattle.format.specs.Model.{member}
 use Rattle.format.specs.Values.{idsFrom}
 
 -- ---- ids by their differences. The difference of an id is what it lies above the one before; of a list's first it is one more than the
@@ -36,17 +37,12 @@ asDifferences least [] = []
 asDifferences zero (v ∷ vs) = firstDifference v ∷ vs
 asDifferences (suc least) (v ∷ vs) = v ∷ vs
 
--- what `restore_docs` answers, question 6: the last id, 0 where there is none, if they are in order; and leaves, if they are: the ids in
--- the place of the first n differences
+-- question 6: the last id, 0 where there is none, if they are in order
 unfoldable pub risen : ℕ → List ℕ → Restored
 unfolding choose lastOf inOrder idsBehind
 risen least ds = choose (inOrder least ds) (λ _. Rising (lastOf 0 (idsBehind least ds))) (λ _. NotRising)
 
-pub record DocsRestored (least n : ℕ) (entry exit : List ℕ) (answer : Restored) : Type 0 where
-  pub answered : answer ≡ risen least (take n entry)
-  pub left : inOrder least (take n entry) ≡ true → exit ≡ idsBehind least (take n entry) ++ drop n entry
-
--- ---- the private functions below it
+-- ---- in place
 
 -- the numbers in the place of the first n values, every other value as before. A place has 32 bits: of a number that needs more,
 -- which is no id, it has the lowest
@@ -62,3 +58,21 @@ pub record Summed (before n : ℕ) (entry exit : List ℕ) (last : ℕ) : Type 0
 unfoldable pub ending : ℕ → Restored
 unfolding choose
 ending last = choose (ltb last TERMINATED) (λ _. Rising last) (λ _. NotRising)
+
+-- the ids of differences as sums on top of the id before, of which a list's first has none
+unfoldable pub sumsBehind : ℕ → List ℕ → List ℕ
+unfolding idsFrom
+sumsBehind least [] = []
+sumsBehind zero (d ∷ ds) = idsFrom 0 0 ((d - 1) ∷ ds)
+sumsBehind (suc before) (d ∷ ds) = idsFrom 0 before (d ∷ ds)
+
+-- a difference is 0 and the caller didn't rule that out
+unfoldable pub foundZero : Bool → List ℕ → Bool
+unfolding member
+foundZero nonzero ds = and (not nonzero) (member 0 ds)
+
+-- `restore_docs`: where a 0 is found nothing is written. Else the sums are, whatever they come to; the last of them answers. Where no
+-- difference is 0 that the caller ruled out, the answer is `risen`, and the sums in order are the ids (proofs/Differences.antt)
+pub record DocsRestored (least n : ℕ) (nonzero : Bool) (entry exit : List ℕ) (answer : Restored) : Type 0 where
+  pub answered : answer ≡ choose (foundZero nonzero (take n entry)) (λ _. NotRising) (λ _. ending (lastOf 0 (sumsBehind least (take n entry))))
+  pub left : exit ≡ choose (foundZero nonzero (take n entry)) (λ _. entry) (λ _. inPlace n (sumsBehind least (take n entry)) entry)

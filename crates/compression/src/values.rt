@@ -3,7 +3,7 @@
 use common::difference;
 use format::TERMINATED;
 ghost use mathlib.Core.Path.{_≡_};
-ghost use mathlib.Core.Bool.{true, false};
+ghost use mathlib.Core.Bool.{true};
 ghost use Prim.Native.Nat.{_≤_, _<_, _^_, min};
 ghost use lib.ListN.{length, take};
 ghost use Rattle.format.specs.Model.{member};
@@ -118,10 +118,9 @@ fn ending(last: u64) -> Restored
 }
 
 // The ids of the first n differences, all of them where n is larger, in their place; question 6. Ids are sums of differences, so they
-// rise where no difference is 0, and then the last one says whether all lie below TERMINATED. The caller may know that none is 0.
+// rise where no difference is 0, and then the last one says whether all lie below TERMINATED. A caller that knows that none is 0 says so.
 pub fn restore_docs(values: &mut [u32; 128], n: usize, nonzero: bool, least: u32) -> Restored
-    ensures { λ r. ⌜ ((nonzero ≡ true → member 0 (take n (now (values .entry))) ≡ false)
-        → DocsRestored least n (now (values .entry)) (now (values .exit)) r) ⌝ }
+    ensures { λ r. ⌜ DocsRestored least n nonzero (now (values .entry)) (now (values .exit)) r ⌝ }
 {
     let m = smaller(n, 128);
     if m == 0 {

@@ -12,7 +12,6 @@ use lib.Dec.{leb, eqb·suc-zero}
 use lib.ListN.{length, take, drop, length-append}
 use lib.Seq.{take-append-seam, drop-append-seam, drop-append-add}
 use Rattle.format.specs.declared.IndexRecordOption.{IndexRecordOption}
-use Rattle.format.specs.declared.IndexRecordOption.the-variants.{Basic, WithFreqs}
 use Rattle.format.specs.declared.VInt.the-variants.{Number}
 use Rattle.format.specs.Basics.{ok, ask, choose, lastOf, TERMINATED}
 use Rattle.format.specs.Vint.{vint}
@@ -24,7 +23,7 @@ use Rattle.format.specs.Layout.{fullBlocks, split, layout, skipBytes, po
 use Rattle.format.specs.declared.Layout.{Layout}
 use Rattle.format.proofs.Accepted.{known-mode}
 use Rattle.format.proofs.Vints.{skip-length-reads-back}
-use Rattle.format.proofs.SkipEntry.{entry-length}
+use Rattle.format.proofs.SkipEntry.{size-most, entry-length}
 use Rattle.format.proofs.ImageParts.{parts, headed, withBlock-skips, parts-zero, parts-suc, headed-suc}
 use Rattle.format.proofs.Opened.{sized-is, split-number, layout-is}
 
@@ -35,11 +34,6 @@ skips-length option zero least ds fs = rw (parts-zero, mul-zero)
 skips-length option (suc n) least ds fs =
     let later = skips-length option n (lastOf 0 (take 128 ds) + 1) (drop 128 ds) (drop 128 fs) in
     rw (parts-suc, withBlock-skips, length-append, entry-length, later) (omega arith)
-
-entrySize-le : (option : IndexRecordOption) → entrySize option ≤ 8
-unfolding entrySize
-entrySize-le Basic = omega arith
-entrySize-le WithFreqs = omega arith
 
 -- the entries of n + 1 blocks take the 8 bytes for each just if frequencies were kept
 kept-again : (mode : ℕ) (recording : Bool) (n : ℕ) → mode ≤ 1
@@ -69,7 +63,7 @@ module _ (t : Term) (mode-known : t .mode ≤ 1) (requested-known : t .requested
 
     skips-below : length (p .skips) < 2 ^ 64
     unfolding fullBlocks
-    skips-below = omega (arith, mul-le-mul-right (suc n) (entrySize-le (keptIn (t .mode) recording)))
+    skips-below = omega (arith, mul-le-mul-right (suc n) (size-most (keptIn (t .mode) recording)))
 
     -- behind the bytes of the skip length
     split-parts : (front : List ℕ)

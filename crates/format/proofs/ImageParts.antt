@@ -2,7 +2,7 @@
 -- is one induction on its full blocks; the image's definition has all blocks first and then the tail. They are the same bytes: the
 -- tail's differences begin at the last id before it, found behind the last block or at the end of all blocks.
 -- Assumes nothing.
-use mathlib.Core.Bool.{true, false}
+use mathlib.Core.Bool.{false}
 use mathlib.Core.List.{List, [], _∷_, _++_, append-assoc}
 use mathlib.Core.Path.{_≡_, refl}
 use Prim.Native.Nat.{ℕ, zero, suc, _+_, _-_, _*_, _/_, _≤_, _<_}

@@ -6,7 +6,7 @@ use mathlib.Core.List.{List}
 use mathlib.Core.Path.{_≡_, refl}
 use Prim.Native.Nat.{ℕ, zero, suc, _+_, _-_, _*_}
 use lib.ListN.{length, drop, replicate}
-use lib.Dec.{eqb, leb, ltb}
+use lib.Dec.{eqb, leb}
 use Rattle.format.specs.declared.IndexRecordOption.{IndexRecordOption}
 use Rattle.format.specs.declared.BlockInfo.{BlockInfo}
 use Rattle.format.specs.declared.VInt.the-variants.{Number, Malformed}
@@ -19,7 +19,7 @@ use Rattle.format.specs.Values.{ids, restored, rising, countable}
 use Rattle.format.specs.SkipEntry.{hasFreq, entrySize, readEntry, blockSize, entryFits}
 use Rattle.format.specs.Accepted.{knownMode, keptIn}
 use Rattle.format.specs.declared.Term.{Term}
-use Rattle.format.specs.Layout.{fullBlocks, tailLength, sized, split, layout, skipBytes, postingBytes}
+use Rattle.format.specs.Layout.{fullBlocks, sized, split, layout, skipBytes, postingBytes}
 use Rattle.format.specs.declared.Layout.{Layout}
 use Rattle.format.specs.Reading.{fullDocs, fullFreqs, fullBlock, numbers, ended, tailFreqs, tailHasFreq, tailBlock}
 use Rattle.format.specs.Reading.{nothing, before, entryBlock, Walk, walkOf, readFrom, readAll, reading, soundness}

@@ -6,24 +6,25 @@ use mathlib.Core.Bool.{Bool, true, false, and-eq-true-iff}
 use mathlib.Core.List.{List, [], _∷_, _++_}
 use mathlib.Core.Path.{_≡_, refl, sym}
 use Prim.Native.Nat.{ℕ, _+_, _/_, _%_, _^_, _≤_, _<_}
-use native.Mathlib.Nat.{add-assoc, mod-eq-of-lt, div-div-eq-div-mul}
+use native.Mathlib.Nat.{mod-eq-of-lt, div-div-eq-div-mul}
 use native.Mathlib.Omega.{arith}
 use borrow.Author.Tests.{leb-true, ltb-true}
 use lib.Dec.{eqb}
 use lib.ListN.{length}
-use lib.Seq.{getD-append-add, getD-at}
+use lib.Seq.{getD-at}
 use Rattle.format.specs.declared.IndexRecordOption.{IndexRecordOption}
 use Rattle.format.specs.declared.IndexRecordOption.the-variants.{Basic, WithFreqs}
 use Rattle.format.specs.declared.BlockInfo.{BlockInfo}
 use Rattle.format.specs.Basics.{choose, word, le32, TERMINATED}
 use Rattle.format.specs.SkipEntry.{hasFreq, entrySize, freqWidthOf, readEntry, freqPart, widthByte, writeEntry, blockSize, entryFits}
 
--- ---- 32-bit numbers
+-- no entry is longer than the longest
+pub size-most : (option : IndexRecordOption) → entrySize option ≤ 8
+unfolding entrySize
+size-most Basic = omega arith
+size-most WithFreqs = omega arith
 
--- bytes in front move a word's place
-pub word-append : (a bs : List ℕ) (p : ℕ) → word (a ++ bs) (length a + p) ≡ word bs p
-unfolding word
-word-append a bs p = simp (add-assoc, getD-append-add)
+-- ---- 32-bit numbers
 
 -- the sum of the four, of which the highest needs no remainder
 word-here : (n : ℕ) (rest : List ℕ) → n < 2 ^ 32 → word (le32 n ++ rest) 0 ≡ n

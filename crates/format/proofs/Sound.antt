@@ -7,7 +7,7 @@ use mathlib.Core.Path.{_≡_, refl, sym, ap, _∙_}
 use Prim.Native.Nat.{ℕ, _+_, _-_, _*_, _^_, _≤_, _<_}
 use native.Mathlib.Omega.{arith}
 use borrow.Author.Tests.{leb-true}
-use lib.Dec.{eqb, ltb}
+use lib.Dec.{eqb}
 use lib.ListN.{length}
 use Rattle.format.specs.declared.Layout.{Layout}
 use Rattle.format.specs.declared.Term.{Term}

@@ -11,7 +11,7 @@ use Rattle.format.specs.declared.IndexRecordOption.the-variants.{Basic, 
 use Rattle.format.specs.declared.BlockInfo.{BlockInfo}
 use Rattle.format.specs.Basics.{choose, word, le32, TERMINATED}
 
--- whether frequencies are kept
+-- whether blocks and entries hold frequencies
 unfoldable pub hasFreq : IndexRecordOption → Bool
 hasFreq Basic = false
 hasFreq WithFreqs = true

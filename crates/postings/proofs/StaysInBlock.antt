@@ -22,13 +22,13 @@ use Rattle.segment_postings.proofs.Laws.LooksAt.{same-bounds}
 
 module _ (c : SegmentPostings) (t : Term) (bs bs′ : List ℕ) (same : length bs ≡ length bs′) where
   -- at the end
-  pub step-at-end : position c ≡ t .count → advanced c bs t ≡ advanced c bs′ t
+  pub step-at-end : position (c .held) ≡ t .count → advanced c bs t ≡ advanced c bs′ t
   unfolding advanced stepping choose
-  step-at-end e = rw (same-bounds c t bs bs′ same, eq-eqb (position c) (t .count) e)
+  step-at-end e = rw (same-bounds c t bs bs′ same, eq-eqb (position (c .held)) (t .count) e)
 
-  pub seek-at-end : (target : ℕ) → position c ≡ t .count → sought c bs t target ≡ sought c bs′ t target
+  pub seek-at-end : (target : ℕ) → position (c .held) ≡ t .count → sought c bs t target ≡ sought c bs′ t target
   unfolding sought seeking choose
-  seek-at-end target e = rw (same-bounds c t bs bs′ same, eq-eqb (position c) (t .count) e)
+  seek-at-end target e = rw (same-bounds c t bs bs′ same, eq-eqb (position (c .held)) (t .count) e)
 
   -- a step to another place of the block
   pub step-held : c .held .place + 1 < 128 → advanced c bs t ≡ advanced c bs′ t

@@ -108,7 +108,7 @@ modelNumbers n (a ∷ rest) (p ∷ ps) = numbers (withEntries a (entriesRead n p
 
 -- a cursor beside the model's state
 pub record Counts (t : Term) (c : SegmentPostings) (m : State) : Type 0 where
-  pub at-position : position c ≡ m .position
+  pub at-position : position (c .held) ≡ m .position
   pub unpacked-visited : c .held .unpacked ≡ length (m .visited)
   pub entries-are : c .held .entries ≡ entriesRead (t .count) (m .position)
 

@@ -19,19 +19,18 @@ use Rattle.segment_postings.specs.declared.Moved.{Moved}
 use Rattle.segment_postings.specs.declared.find.Start.{Start}
 use Rattle.segment_postings.specs.Landing.{firstStart, landing}
 
-unfoldable pub position : SegmentPostings → ℕ
-position c = 128 * c .held .block + c .held .place
+unfoldable pub position : Held → ℕ
+position h = 128 * h .block + h .place
 
--- question 16: block at most F, place below 128, position at most count, bytes inside the image, unpacked at most block + 1,
--- entries at most the smaller of block + 1 and F
-unfoldable pub inBounds : Term → List ℕ → SegmentPostings → Bool
+-- question 16, of an image of `size` bytes: block at most F, place below 128, position at most count, bytes inside the image, unpacked
+-- at most block + 1, entries at most the smaller of block + 1 and F
+unfoldable pub inBounds : Term → (size : ℕ) → Held → Bool
 unfolding fullBlocks position
-inBounds t bs c =
-    let h : Held = c .held in
+inBounds t size h =
     and (leb (h .block) (fullBlocks t))
     (and (ltb (h .place) 128)
-    (and (leb (position c) (t .count))
-    (and (leb (h .next) (length bs))
+    (and (leb (position h) (t .count))
+    (and (leb (h .next) size)
     (and (leb (h .unpacked) (h .block + 1))
     (leb (h .entries) (min (h .block + 1) (fullBlocks t)))))))
 
@@ -40,7 +39,7 @@ unfoldable pub answerAt : Term → SegmentPostings → Answer
 unfolding choose position
 answerAt t c =
     let h : Held = c .held in
-    choose (eqb (position c) (t .count))
+    choose (eqb (position h) (t .count))
     (λ _. At TERMINATED 0 (h .unpacked) (h .entries))
     (λ _. At (getD (c .docs) (h .place) 0) (getD (c .freqs) (h .place) 0) (h .unpacked) (h .entries))
 
@@ -109,42 +108,42 @@ startBehind h = record {
 
 -- another block: questions 1 to 4 are asked again of the image that is passed, then 5 to 9. A lent cursor that didn't come
 -- from this image may place its next block before the posting bytes; blocks found behind that one begin behind it
-unfoldable pub leaving : SegmentPostings → List ℕ → Term → ℕ → Outcome SegmentPostings
+unfoldable pub leaving : Held → List ℕ → Term → ℕ → Outcome SegmentPostings
 unfolding andThen ask layout startsInside landing leastAfter
-leaving c bs t target =
+leaving h bs t target =
     andThen (layout t bs) λ l.
-    ask (startsInside t l (c .held .block + 1) (c .held .next)) entryBroken λ _.
-    landing t bs l target (startBehind (c .held))
+    ask (startsInside t l (h .block + 1) (h .next)) entryBroken λ _.
+    landing t bs l target (startBehind h)
 
 -- a step: 16; at the end nothing; else one place on, in the held block or the next
 unfoldable pub stepping : SegmentPostings → List ℕ → Term → Outcome SegmentPostings
 unfolding ask choose inBounds position atPlace leaving
 stepping c bs t =
-    ask (inBounds t bs c) stateBroken λ _.
-    choose (eqb (position c) (t .count)) (λ _. ok c) λ _.
+    ask (inBounds t (length bs) (c .held)) stateBroken λ _.
+    choose (eqb (position (c .held)) (t .count)) (λ _. ok c) λ _.
     choose (ltb (c .held .place + 1) 128) (λ _. ok (atPlace c (c .held .place + 1))) λ _.
-    leaving c bs t 0
+    leaving (c .held) bs t 0
 
 unfoldable pub advanced : SegmentPostings → List ℕ → Term → Moved
 unfolding moved stepping
 advanced c bs t = moved t c (stepping c bs t)
 
 -- what stands at the position among 128 values, as a call of its own: 16; at the end `end`
-unfoldable pub valueAt : List ℕ → ℕ → SegmentPostings → List ℕ → Term → Outcome ℕ
+unfoldable pub valueAt : List ℕ → ℕ → Held → List ℕ → Term → Outcome ℕ
 unfolding ask choose inBounds position
-valueAt values end c bs t =
-    ask (inBounds t bs c) stateBroken λ _.
-    choose (eqb (position c) (t .count)) (λ _. ok end) (λ _. ok (getD values (c .held .place) 0))
+valueAt values end h bs t =
+    ask (inBounds t (length bs) h) stateBroken λ _.
+    choose (eqb (position h) (t .count)) (λ _. ok end) (λ _. ok (getD values (h .place) 0))
 
 -- the document at the position, at the end TERMINATED
 unfoldable pub docAt : SegmentPostings → List ℕ → Term → Outcome ℕ
 unfolding valueAt
-docAt c bs t = valueAt (c .docs) TERMINATED c bs t
+docAt c bs t = valueAt (c .docs) TERMINATED (c .held) bs t
 
 -- the frequency at the position, at the end 0
 unfoldable pub freqAt : SegmentPostings → List ℕ → Term → Outcome ℕ
 unfolding valueAt
-freqAt c bs t = valueAt (c .freqs) 0 c bs t
+freqAt c bs t = valueAt (c .freqs) 0 (c .held) bs t
 
 -- ---- seeks
 
@@ -174,15 +173,15 @@ unfoldable pub behind : SegmentPostings → List ℕ → Term → ℕ → Outcom
 unfolding ask andThen fullBlocks leaving atPlace placeOf
 behind c bs t target =
     ask (ltb (c .held .block) (fullBlocks t)) stateBroken λ _.
-    andThen (leaving c bs t target) λ landed. ok (atPlace landed (placeOf landed target))
+    andThen (leaving (c .held) bs t target) λ landed. ok (atPlace landed (placeOf landed target))
 
 -- a seek: 16; at the end nothing, whatever the target; 10; a target not behind the present document stays; then the held block, if its
 -- last id is at least the target, else the blocks behind it
 unfoldable pub seeking : SegmentPostings → List ℕ → Term → ℕ → Outcome SegmentPostings
 unfolding ask choose inBounds position within behind
 seeking c bs t target =
-    ask (inBounds t bs c) stateBroken λ _.
-    choose (eqb (position c) (t .count)) (λ _. ok c) λ _.
+    ask (inBounds t (length bs) (c .held)) stateBroken λ _.
+    choose (eqb (position (c .held)) (t .count)) (λ _. ok c) λ _.
     ask (leb target TERMINATED) targetTooLarge λ _.
     choose (leb target (getD (c .docs) (c .held .place) 0)) (λ _. ok c) λ _.
     choose (leb target (c .held .«last_doc»)) (λ _. within c t target) (λ _. behind c bs t target)
@@ -202,4 +201,4 @@ unfolding ask andThen seekingFresh position
 ranking mode count bs target =
     let t : Term = record { mode = mode; requested = 0; count = count } in
     ask (leb target TERMINATED) targetTooLarge λ _.
-    andThen (seekingFresh bs t target) λ c. ok (position c)
+    andThen (seekingFresh bs t target) λ c. ok (position (c .held))

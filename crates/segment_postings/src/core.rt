@@ -22,18 +22,17 @@ use format::Term;
 use skip::block_size;
 ghost use mathlib.Core.Bool.{true};
 ghost use mathlib.Core.Path.{_≡_};
-ghost use mathlib.Core.List.{List};
-ghost use Prim.Native.Nat.{ℕ, _+_, _*_, _/_, _<_, _^_};
+ghost use Prim.Native.Nat.{_+_, _*_, _/_, _<_, _^_};
 ghost use lib.Dec.{eqb};
 ghost use lib.ListN.{length};
 ghost use Rattle.segment_postings.specs.Landing.{firstStart, landing};
-ghost use Rattle.segment_postings.specs.Cursor.{inBounds, answerAt, answering, opening, leastAfter, startsInside, startBehind, leaving, stepping};
+ghost use Rattle.segment_postings.specs.Cursor.{inBounds, answerAt, answering, opening, leastAfter, startsInside, startBehind, leaving, heldAt, stepping};
 ghost use Rattle.segment_postings.specs.Calls.{cursorOf, Reaches};
 ghost use Rattle.segment_postings.specs.Private.{FoundThere, FindsFrom, loaded, Lands};
 
 // Question 16 of a cursor over an image of `size` bytes: it is asked of the numbers alone.
 pub(crate) fn in_bounds(held: Held, term: Term, size: usize) -> bool
-    ensures { λ r. ⌜ ((bs docs freqs : List ℕ) → length bs ≡ size → r ≡ inBounds term bs (cursorOf held docs freqs)) ⌝ }
+    ensures { λ r. ⌜ r ≡ inBounds term size held ⌝ }
 {
     let count = term.count as usize;
     let blocks = count / COMPRESSION_BLOCK_SIZE;
@@ -169,7 +168,7 @@ pub(crate) fn first_start(layout: Layout) -> Start
 }
 
 // Goes to a list's first document: questions 1 to 4, then entry 0, if any, and block 0.
-fn begin(image: &[u8], term: Term, docs: &mut [u32; 128], freqs: &mut [u32; 128]) -> Reached
+pub(crate) fn begin(image: &[u8], term: Term, docs: &mut [u32; 128], freqs: &mut [u32; 128]) -> Reached
     ensures { λ r. ⌜ Lands (opening (now (image .entry)) term) (now (docs .exit)) (now (freqs .exit)) r ⌝ }
 {
     match lay_out(image, term) {
@@ -240,8 +239,8 @@ fn leave(
     docs: &mut [u32; 128],
     freqs: &mut [u32; 128],
 ) -> Reached
-    requires { ⌜ ((ds fs : List ℕ) → inBounds term (now image) (cursorOf held ds fs) ≡ true) × (held .block < term .count / 128) ⌝ }
-    ensures { λ r. ⌜ ((ds fs : List ℕ) → Lands (leaving (cursorOf held ds fs) (now (image .entry)) term target) (now (docs .exit)) (now (freqs .exit)) r) ⌝ }
+    requires { ⌜ (inBounds term (length (now image)) held ≡ true) × (held .block < term .count / 128) ⌝ }
+    ensures { λ r. ⌜ Lands (leaving held (now (image .entry)) term target) (now (docs .exit)) (now (freqs .exit)) r ⌝ }
 {
     match lay_out(image, term) {
         Laid::At(layout) => {
@@ -264,8 +263,8 @@ pub(crate) fn leave_whole(
     docs: &mut [u32; 128],
     freqs: &mut [u32; 128],
 ) -> Reached
-    requires { ⌜ (inBounds term (now image) (cursorOf held (now docs) (now freqs)) ≡ true) × (held .block < term .count / 128) ⌝ }
-    ensures { λ r. ⌜ Reaches (leaving (cursorOf held (now (docs .entry)) (now (freqs .entry))) (now (image .entry)) term target) (now (docs .entry)) (now (freqs .entry)) (now (docs .exit)) (now (freqs .exit)) r ⌝ }
+    requires { ⌜ (inBounds term (length (now image)) held ≡ true) × (held .block < term .count / 128) ⌝ }
+    ensures { λ r. ⌜ Reaches (leaving held (now (image .entry)) term target) (now (docs .entry)) (now (freqs .entry)) (now (docs .exit)) (now (freqs .exit)) r ⌝ }
 {
     let mut ids = [0; 128];
     let mut counts = [0; 128];
@@ -275,6 +274,20 @@ pub(crate) fn leave_whole(
         *freqs = counts;
     }
     reached
+}
+
+// The numbers of a cursor at another place of its held block.
+pub(crate) fn at_place(held: Held, place: usize) -> Held
+    ensures { λ r. ⌜ r ≡ heldAt held place ⌝ }
+{
+    Held {
+        place,
+        block: held.block,
+        next: held.next,
+        last_doc: held.last_doc,
+        unpacked: held.unpacked,
+        entries: held.entries,
+    }
 }
 
 // Steps to the next document: in the held block, or to the first of the next one; at the end nowhere.
@@ -295,14 +308,7 @@ pub fn advance_in(
     }
     let place = held.place + 1;
     if place < COMPRESSION_BLOCK_SIZE {
-        return Reached::At(Held {
-            place,
-            block: held.block,
-            next: held.next,
-            last_doc: held.last_doc,
-            unpacked: held.unpacked,
-            entries: held.entries,
-        });
+        return Reached::At(at_place(held, place));
     }
     leave_whole(held, image, term, 0, docs, freqs)
 }

@@ -77,8 +77,8 @@ fn total_laid(image: &[u8], term: Term, layout: Layout, target: u32) -> Value
     ensures { λ r. ⌜ r ≡ valued (totalIn target (reading term (now (image .entry)))) ⌝ }
 {
     let blocks = full_blocks(term.count);
-    let mut docs = [TERMINATED; 128];
-    let mut freqs = [1; 128];
+    let mut docs = [0; 128];
+    let mut freqs = [0; 128];
     let mut from = first_start(layout);
     let mut passed = 0;
     loop {

@@ -48,7 +48,7 @@ pub struct Taken {
     pub freqs_nonzero: bool,
     // Of a tail: that no bytes are left, or that those that are left aren't asked for.
     pub ended: bool,
-    // Whether the image keeps frequencies.
+    // Whether the image keeps frequencies; of a tail it is told where the numbers of all its ids were there.
     pub kept: bool,
     // Blocks unpacked so far, with this one.
     pub unpacked: usize,
@@ -125,7 +125,7 @@ fn keeps_freqs(option: IndexRecordOption, alone: bool, n: usize, image: &[u8], a
 }
 
 // Takes the values of a block out of an image, and counts it. No other function does either. Ids are left as differences, frequencies as
-// they are; a block that isn't there leaves in the arrays what it may.
+// they are; of a tail whose ids aren't all there nothing is told of the ids' array.
 pub(crate) fn take_values(
     image: &[u8],
     term: Term,

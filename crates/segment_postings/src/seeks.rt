@@ -8,9 +8,10 @@ use crate::SegmentPostings;
 use crate::Value;
 use crate::core::advance_in;
 use crate::core::at_end;
+use crate::core::at_place;
+use crate::core::begin;
 use crate::core::in_bounds;
 use crate::core::leave_whole;
-use crate::core::open_in;
 use crate::core::shown_at;
 use crate::layout::full_blocks;
 use block_search::search_block;
@@ -23,23 +24,10 @@ ghost use mathlib.Core.Bool.{true};
 ghost use mathlib.Core.Path.{_≡_};
 ghost use mathlib.Core.List.{List};
 ghost use Prim.Native.Nat.{ℕ, _/_, _≤_, _<_};
-ghost use Rattle.segment_postings.specs.Cursor.{inBounds, heldAt, within, behind, seeking, sought, seekingFresh, ranking};
+ghost use lib.ListN.{length};
+ghost use Rattle.segment_postings.specs.Cursor.{inBounds, within, behind, seeking, sought, seekingFresh, ranking};
 ghost use Rattle.segment_postings.specs.Calls.{cursorOf, Leaves, reached, Reaches, valued};
 ghost use Rattle.segment_postings.specs.Private.{answered, going};
-
-// The numbers of a cursor at another place of its held block.
-fn at_place(held: Held, place: usize) -> Held
-    ensures { λ r. ⌜ r ≡ heldAt held place ⌝ }
-{
-    Held {
-        place,
-        block: held.block,
-        next: held.next,
-        last_doc: held.last_doc,
-        unpacked: held.unpacked,
-        entries: held.entries,
-    }
-}
 
 // Seeks in the held block. Values that fit no image may have no place for the target behind the present one: 16.
 fn seek_within(held: Held, term: Term, target: u32, docs: &[u32; 128]) -> Reached
@@ -72,7 +60,7 @@ fn seek_behind(
     docs: &mut [u32; 128],
     freqs: &mut [u32; 128],
 ) -> Reached
-    requires { ⌜ inBounds term (now image) (cursorOf held (now docs) (now freqs)) ≡ true ⌝ }
+    requires { ⌜ inBounds term (length (now image)) held ≡ true ⌝ }
     ensures { λ r. ⌜ Reaches (behind (cursorOf held (now (docs .entry)) (now (freqs .entry))) (now (image .entry)) term target) (now (docs .entry)) (now (freqs .entry)) (now (docs .exit)) (now (freqs .exit)) r ⌝ }
 {
     if full_blocks(term.count) <= held.block {
@@ -115,7 +103,7 @@ pub fn seek_in(
     seek_behind(held, image, term, target, docs, freqs)
 }
 
-// An answer with the cursor's numbers behind it.
+// An answer with the cursor's numbers after it.
 pub(crate) struct Went {
     pub answer: Answer,
     pub held: Held,
@@ -144,8 +132,8 @@ pub(crate) fn answered(
     }
 }
 
-// A step or a seek on a cursor's arrays, with its answer: what both calls by value do. It has two callers, so that the compiler keeps it
-// apart and inlines them: they were measured faster so.
+// A step or a seek on a cursor's arrays, with its answer: what both calls by value do. With two callers the compiler keeps it apart and
+// inlines `seek` and `advance`, which was measured faster.
 pub(crate) fn go(
     held: Held,
     image: &[u8],
@@ -192,9 +180,9 @@ pub fn seek(cursor: SegmentPostings, image: &[u8], term: Term, target: u32) -> M
 pub(crate) fn seek_fresh(image: &[u8], term: Term, target: u32) -> Reached
     ensures { λ r. ⌜ r ≡ reached (seekingFresh (now (image .entry)) term target) ⌝ }
 {
-    let mut docs = [TERMINATED; 128];
-    let mut freqs = [1; 128];
-    match open_in(image, term, &mut docs, &mut freqs) {
+    let mut docs = [0; 128];
+    let mut freqs = [0; 128];
+    match begin(image, term, &mut docs, &mut freqs) {
         Reached::At(first) => seek_in(first, image, term, target, &mut docs, &mut freqs),
         Reached::Refused(n) => Reached::Refused(n),
     }

@@ -14,10 +14,8 @@ use format::STATE_BROKEN;
 use format::TERMINATED;
 use format::Term;
 ghost use mathlib.Core.Path.{_≡_};
-ghost use mathlib.Core.List.{List};
-ghost use Prim.Native.Nat.{ℕ};
 ghost use Rattle.segment_postings.specs.Cursor.{blank, opened, advanced, valueAt, docAt, freqAt};
-ghost use Rattle.segment_postings.specs.Calls.{cursorOf, valued};
+ghost use Rattle.segment_postings.specs.Calls.{valued};
 
 // A cursor of no list: 128 places that hold TERMINATED, with frequency 1. It is at none of them, so that every call on it is refused.
 fn blank() -> SegmentPostings
@@ -78,7 +76,7 @@ fn value(x: u32) -> Value
 
 // What stands at the position among 128 values, `end` at the end: the cursor's numbers decide.
 fn value_at(values: &[u32; 128], end: u32, held: Held, image: &[u8], term: Term) -> Value
-    ensures { λ r. ⌜ ((docs freqs : List ℕ) → r ≡ valued (valueAt (now (values .entry)) end (cursorOf held docs freqs) (now (image .entry)) term)) ⌝ }
+    ensures { λ r. ⌜ r ≡ valued (valueAt (now (values .entry)) end held (now (image .entry)) term) ⌝ }
 {
     if !in_bounds(held, term, image.len()) {
         return Value::Refused(STATE_BROKEN);

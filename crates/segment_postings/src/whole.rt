@@ -13,7 +13,6 @@ use crate::validate::validate;
 use format::COMPRESSION_BLOCK_SIZE;
 use format::Layout;
 use format::NO_ROOM;
-use format::TERMINATED;
 use format::Term;
 ghost use mathlib.Core.Path.{_≡_};
 ghost use Prim.Native.Nat.{_+_, _*_, _≤_};
@@ -42,8 +41,8 @@ fn read_laid(image: &[u8], term: Term, layout: Layout, docs: &mut [u32], freqs: 
     ensures { λ _. ⌜ Written term (now (image .entry)) (now (docs .entry)) (now (freqs .entry)) (now (docs .exit)) (now (freqs .exit)) ⌝ }
 {
     let blocks = full_blocks(term.count);
-    let mut ids = [TERMINATED; 128];
-    let mut counts = [1; 128];
+    let mut ids = [0; 128];
+    let mut counts = [0; 128];
     let mut from = first_start(layout);
     loop {
         match land(image, term, layout, 0, from, &mut ids, &mut counts) {

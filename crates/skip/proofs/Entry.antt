@@ -23,12 +23,6 @@ unfolding entrySize
 size-least Basic = lit≤ tt
 size-least WithFreqs = lit≤ tt
 
--- .. and no entry is longer than the longest
-pub size-most : (option : IndexRecordOption) → entrySize option ≤ 8
-unfolding entrySize
-size-most Basic = lit≤ tt
-size-most WithFreqs = lit≤ tt
-
 module _ (option : IndexRecordOption) (bs : List ℕ) (at : ℕ) where
   pub entryAt-within : at + entrySize option ≤ length bs → entryAt option bs at ≡ Entry (readEntry option (drop at bs))
   unfolding choose entryAt

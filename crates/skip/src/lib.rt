@@ -9,7 +9,7 @@ use format::IndexRecordOption;
 use format::Next;
 use format::TERMINATED;
 ghost use mathlib.Core.Path.{_≡_};
-ghost use Prim.Native.Nat.{_+_, _*_, _≤_, _<_};
+ghost use Prim.Native.Nat.{_+_, _≤_, _<_};
 ghost use lib.ListN.{length, drop};
 ghost use Rattle.format.specs.Basics.{fourBytes};
 ghost use Rattle.format.specs.SkipEntry.{hasFreq, entrySize, freqWidthOf, readEntry, widthByte, blockSize, entryFits};

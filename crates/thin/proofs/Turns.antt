@@ -70,7 +70,7 @@ use borrow.Author.Tests.{lt-ltb, le-ltb}
 use denote.RattleType.{Denots}
 use denote.Laws.{Is, shows, Typed}
 use denote.Memory.{mem, pointee, cellAt}
-use denote.Ref.{RefT, now}
+use denote.Ref.{RefT}
 use denote.Slice.{sliceTy, sliceVal, Room, heres, codedHoleys}
 use denote.Lend.{Held}
 use denote.Index.{row, place as placeOf, place-is, elem-out, elem-back, elem-put, opens-slice, closes-slice}

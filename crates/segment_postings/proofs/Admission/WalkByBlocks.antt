@@ -22,7 +22,7 @@ use Rattle.format.proofs.Sound.{layout-inside, whole-count}
 use Rattle.segment_postings.specs.declared.Answer.the-variants.{At}
 use Rattle.segment_postings.specs.declared.SegmentPostings.{SegmentPostings}
 use Rattle.segment_postings.specs.Landing.{holding, landing}
-use Rattle.segment_postings.specs.Cursor.{inBounds, answerAt, position, atPlace, leastAfter, stepping}
+use Rattle.segment_postings.specs.Cursor.{inBounds, answerAt, position, heldAt, atPlace, leastAfter, stepping}
 use Rattle.segment_postings.specs.Private.{FindsFrom}
 use Rattle.segment_postings.specs.Passed.{docsIn}
 use Rattle.segment_postings.proofs.Admission.LandingReads.{BlockHeld, block-held, docs-in-full, docs-in-tail, reads-on, reads-last}
@@ -224,10 +224,10 @@ module _ (t : Term) (bs : List ℕ) (l : Layout) (laid : layout t bs ≡ ok l) w
       answer-end e = rw (answerAt-is, k .block-is, eq-eqb (128 * b + p) (t .count) e, k .unpacked-is, k .entries-are)
 
       module _ (inside : 128 * b + p ≤ t .count) where
-        bounds : inBounds t bs here ≡ true
+        bounds : inBounds t (length bs) (here .held) ≡ true
         unfolding atPlace fullBlocks
         bounds =
-            in-bounds t bs here
+            in-bounds t (length bs) (here .held)
             (record {
               block-most = omega (arith, k .block-is, k .passed .block-most);
               place-below = small;
@@ -260,7 +260,7 @@ module _ (t : Term) (bs : List ℕ) (l : Layout) (laid : layout t bs ≡ ok l) w
         let least : min (d .held .«last_doc» + 1) TERMINATED ≡ d .held .«last_doc» + 1 = omega (arith, k .held .next some .last-below) in
         let one-more : d .held .entries ≡ b + 1 = omega (arith, k .entries-are) in
         stepping-leaves (atPlace d 127) bs t bounds (ne-eqb (128 * d .held .block + 127) (t .count) (λ e. omega (arith, k .block-is))) (omega arith)
-        ∙ leaving-laid (atPlace d 127) bs t 0 laid (starts-behind t l (d .held .block + 1) (d .held .next) (next-behind some))
+        ∙ leaving-laid (heldAt (d .held) 127) bs t 0 laid (starts-behind t l (d .held .block + 1) (d .held .next) (next-behind some))
         ∙ rw (k .block-is, least, one-more, k .unpacked-is)
 
     -- it is passed

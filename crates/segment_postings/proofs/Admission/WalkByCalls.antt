@@ -22,7 +22,7 @@ use Rattle.segment_postings.specs.declared.Answer.the-variants.{At, Refu
 use Rattle.segment_postings.specs.declared.Moved.{Moved}
 use Rattle.segment_postings.specs.declared.SegmentPostings.{SegmentPostings}
 use Rattle.segment_postings.specs.Landing.{firstStart, landing}
-use Rattle.segment_postings.specs.Cursor.{answerAt, moved, blank, opening, opened, atPlace, stepping, advanced}
+use Rattle.segment_postings.specs.Cursor.{answerAt, moved, blank, opening, opened, atPlace, stepping}
 use Rattle.segment_postings.proofs.Admission.LandingReads.{landing-none}
 use Rattle.segment_postings.proofs.Laws.CursorTurns.{moved-ok, opening-is, opened-is, advanced-is}
 use Rattle.segment_postings.specs.Called.{called, callsFrom, calls}
@@ -84,7 +84,7 @@ module _ (bs : List ℕ) (t : Term) where
   -- ---- the walk after k steps
 
   -- on a block that is read, at position k, or at the end
-  pub record Stands (k : ℕ) : Type 0 where
+  pub record OnWalk (k : ℕ) : Type 0 where
     l : Layout
     laid : layout t bs ≡ ok l
     block : ℕ
@@ -102,11 +102,11 @@ module _ (bs : List ℕ) (t : Term) where
     refuses : stepping (walkAt bs t k .cursor) bs t ≡ refused refusal
 
   pub data Comes : ℕ → Type 0 where
-    stands : {k : ℕ} → Stands k → Comes k
+    stands : {k : ℕ} → OnWalk k → Comes k
     met : {k : ℕ} → Met k → Comes (suc k)
 
   landed-stands : (k : ℕ) {l : Layout} (laid : layout t bs ≡ ok l) {b : ℕ} {d : SegmentPostings} → OnBlock t bs l laid b d → 128 * b ≡ min k (t .count)
-      → walkAt bs t k ≡ record { answer = answerAt t d; cursor = d } → Stands k
+      → walkAt bs t k ≡ record { answer = answerAt t d; cursor = d } → OnWalk k
   unfolding atPlace
   landed-stands k {l} laid {b} {d} on there is =
       record {
@@ -121,16 +121,16 @@ module _ (bs : List ℕ) (t : Term) where
         is = rw (← on .place-is) is;
       }
 
-  stands-first : {c : SegmentPostings} → opening bs t ≡ ok c → Stands 0
+  stands-first : {c : SegmentPostings} → opening bs t ≡ ok c → OnWalk 0
   unfolding andThen
   stands-first {c} e = go (layout t bs) refl (sym (opening-is bs t) ∙ e)
     where
-      go : (o : Outcome Layout) → layout t bs ≡ o → andThen o (λ l. landing t bs l 0 (firstStart l)) ≡ ok c → Stands 0
+      go : (o : Outcome Layout) → layout t bs ≡ o → andThen o (λ l. landing t bs l 0 (firstStart l)) ≡ ok c → OnWalk 0
       go (ok l) laid h =
           landed-stands 0 laid (landing-on t bs l laid (passed-none t bs l laid) h) (omega arith) (walkAt-first ∙ rw (e, moved-ok))
       go (refused n) laid h = absurd (refused≢ok h)
 
-  module _ {k : ℕ} (s : Stands k) where
+  module _ {k : ℕ} (s : OnWalk k) where
     abbrev here : SegmentPostings
     here = atPlace (s .first) (s .place)
 
@@ -144,7 +144,7 @@ module _ (bs : List ℕ) (t : Term) where
     next-is : {o : Outcome SegmentPostings} → stepping here bs t ≡ o → walkAt bs t (suc k) ≡ moved t here o
     next-is e = walkAt-next k ∙ rw (s .is, e)
 
-    ends-again : t .count ≤ k → Stands (suc k)
+    ends-again : t .count ≤ k → OnWalk (suc k)
     ends-again h =
         record {
           l = s .l;
@@ -158,7 +158,7 @@ module _ (bs : List ℕ) (t : Term) where
           is = next-is (step-ends t bs (s .l) (s .laid) on (s .place) (s .small) inside (omega (arith, s .there))) ∙ rw moved-ok;
         }
 
-    goes-on : k < t .count → s .place + 1 < 128 → Stands (suc k)
+    goes-on : k < t .count → s .place + 1 < 128 → OnWalk (suc k)
     goes-on h m =
         record {
           l = s .l;

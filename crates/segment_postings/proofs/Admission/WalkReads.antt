@@ -10,7 +10,7 @@ use native.Mathlib.Nat.{mul-add, mul-one, mul-zero, sub-zero}
 use native.Mathlib.Decide.{decLe}
 use native.Mathlib.Omega.{arith}
 use borrow.Author.Tests.{ltb-true, ltb-false}
-use lib.Dec.{eqb, ltb}
+use lib.Dec.{ltb}
 use lib.ListN.{length, drop, length-drop}
 use lib.Seq.{drop-drop}
 use Rattle.format.specs.declared.BlockInfo.{BlockInfo}
@@ -19,7 +19,7 @@ use Rattle.format.specs.declared.Term.{Term}
 use Rattle.format.specs.Basics.{Outcome, ok, refused, andThen, ask}
 use Rattle.format.specs.Refusal.{entryBroken}
 use Rattle.format.specs.SkipEntry.{hasFreq, entrySize, blockSize, entryFits}
-use Rattle.format.specs.Layout.{layout, fullBlocks, tailLength, skipBytes, postingBytes}
+use Rattle.format.specs.Layout.{layout, fullBlocks, skipBytes, postingBytes}
 use Rattle.format.specs.Reading.{Block, Reading, nothing, before, fullBlock, entryBlock, walkOf, readFrom, reading}
 use Rattle.format.proofs.Outcome.{refused≢ok, ok-same, Numbered}
 use Rattle.format.proofs.SoundBlock.{entryBlock-numbered, tailBlock-numbered}

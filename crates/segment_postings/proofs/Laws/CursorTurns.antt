@@ -12,7 +12,7 @@ use Rattle.format.specs.declared.Layout.{Layout}
 use Rattle.format.specs.declared.Term.{Term}
 use Rattle.format.specs.Basics.{ok, andThen, ask, choose, TERMINATED}
 use Rattle.format.specs.Refusal.{entryBroken, targetTooLarge, stateBroken}
-use Rattle.format.specs.SkipEntry.{hasFreq, entrySize, readEntry, blockSize, entryFits}
+use Rattle.format.specs.SkipEntry.{hasFreq, entrySize, readEntry, entryFits}
 use Rattle.format.specs.Layout.{layout, fullBlocks, tailLength, skipBytes}
 use Rattle.format.specs.Reading.{fullBlock, tailBlock}
 use Rattle.segment_postings.specs.declared.SegmentPostings.{SegmentPostings}
@@ -57,7 +57,7 @@ landing-is t bs l target s = refl
 
 pub answerAt-is : (t : Term) (c : SegmentPostings)
     → answerAt t c
-    ≡ choose (eqb (position c) (t .count))
+    ≡ choose (eqb (position (c .held)) (t .count))
     (λ _. At TERMINATED 0 (c .held .unpacked) (c .held .entries))
     (λ _. At (getD (c .docs) (c .held .place) 0) (getD (c .freqs) (c .held .place) 0) (c .held .unpacked) (c .held .entries))
 unfolding answerAt
@@ -73,7 +73,7 @@ unfolding opening
 opening-is bs t = refl
 
 pub leaving-is : (c : SegmentPostings) (bs : List ℕ) (t : Term) (target : ℕ)
-    → leaving c bs t target
+    → leaving (c .held) bs t target
     ≡ (andThen (layout t bs) λ l.
     ask (startsInside t l (c .held .block + 1) (c .held .next)) entryBroken λ _.
     landing t bs l target (startBehind (c .held)))
@@ -82,10 +82,10 @@ leaving-is c bs t target = refl
 
 pub stepping-is : (c : SegmentPostings) (bs : List ℕ) (t : Term)
     → stepping c bs t
-    ≡ (ask (inBounds t bs c) stateBroken λ _.
-    choose (eqb (position c) (t .count)) (λ _. ok c) λ _.
+    ≡ (ask (inBounds t (length bs) (c .held)) stateBroken λ _.
+    choose (eqb (position (c .held)) (t .count)) (λ _. ok c) λ _.
     choose (ltb (c .held .place + 1) 128) (λ _. ok (atPlace c (c .held .place + 1))) λ _.
-    leaving c bs t 0)
+    leaving (c .held) bs t 0)
 unfolding stepping
 stepping-is c bs t = refl
 
@@ -100,14 +100,14 @@ advanced-is c bs t = refl
 pub behind-is : (c : SegmentPostings) (bs : List ℕ) (t : Term) (target : ℕ)
     → behind c bs t target
     ≡ (ask (ltb (c .held .block) (fullBlocks t)) stateBroken λ _.
-    andThen (leaving c bs t target) λ landed. ok (atPlace landed (placeOf landed target)))
+    andThen (leaving (c .held) bs t target) λ landed. ok (atPlace landed (placeOf landed target)))
 unfolding behind
 behind-is c bs t target = refl
 
 pub seeking-is : (c : SegmentPostings) (bs : List ℕ) (t : Term) (target : ℕ)
     → seeking c bs t target
-    ≡ (ask (inBounds t bs c) stateBroken λ _.
-    choose (eqb (position c) (t .count)) (λ _. ok c) λ _.
+    ≡ (ask (inBounds t (length bs) (c .held)) stateBroken λ _.
+    choose (eqb (position (c .held)) (t .count)) (λ _. ok c) λ _.
     ask (leb target TERMINATED) targetTooLarge λ _.
     choose (leb target (getD (c .docs) (c .held .place) 0)) (λ _. ok c) λ _.
     choose (leb target (c .held .«last_doc»)) (λ _. within c t target) (λ _. behind c bs t target))

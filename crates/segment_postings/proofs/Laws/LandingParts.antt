@@ -10,7 +10,7 @@ use native.Mathlib.Decide.{decLe}
 use native.Mathlib.Omega.{arith}
 use borrow.Author.Tests.{lt-ltb, le-ltb, le-leb, lt-leb, eqb-false}
 use lib.Dec.{eqb, leb}
-use lib.ListN.{getD}
+use lib.ListN.{length, getD}
 use Rattle.format.specs.declared.Layout.{Layout}
 use Rattle.format.specs.declared.Term.{Term}
 use Rattle.format.specs.Basics.{Outcome, ok, refused, andThen, ask, choose, TERMINATED, orBefore}
@@ -201,32 +201,40 @@ module _ (bs : List ℕ) (t : Term) where
   pub opens-from : {l : Layout} → layout t bs ≡ ok l → FindsFrom t l bs (firstStart l)
   opens-from e = record { laid-out = e; block-most = omega arith; inside = laid-out t bs e .inside; entries-most = omega arith }
 
-module _ (c : SegmentPostings) (bs : List ℕ) (t : Term) where
-  pub leaving-laid : (target : ℕ) {l : Layout} → layout t bs ≡ ok l → startsInside t l (c .held .block + 1) (c .held .next) ≡ true
-      → leaving c bs t target ≡ landing t bs l target (startBehind (c .held))
+module _ (h : Held) (bs : List ℕ) (t : Term) where
+  pub leaving-laid : (target : ℕ) {l : Layout} → layout t bs ≡ ok l → startsInside t l (h .block + 1) (h .next) ≡ true
+      → leaving h bs t target ≡ landing t bs l target (startBehind h)
   unfolding leaving andThen ask
   leaving-laid target e inside = rw (e, inside)
 
-  pub leaving-early : (target : ℕ) {l : Layout} → layout t bs ≡ ok l → startsInside t l (c .held .block + 1) (c .held .next) ≡ false
-      → leaving c bs t target ≡ refused entryBroken
+  pub leaving-early : (target : ℕ) {l : Layout} → layout t bs ≡ ok l → startsInside t l (h .block + 1) (h .next) ≡ false
+      → leaving h bs t target ≡ refused entryBroken
   unfolding leaving andThen ask
   leaving-early target e early = rw (e, early)
 
-  pub leaving-refused : (target : ℕ) {n : ℕ} → layout t bs ≡ refused n → leaving c bs t target ≡ refused n
+  pub leaving-refused : (target : ℕ) {n : ℕ} → layout t bs ≡ refused n → leaving h bs t target ≡ refused n
   unfolding leaving andThen
   leaving-refused target e = rw e
 
-  pub leaves-from : {l : Layout} → Bounded t bs c → c .held .block < t .count / 128 → layout t bs ≡ ok l → FindsFrom t l bs (startBehind (c .held))
+  pub leaves-from : {l : Layout} → Bounded t (length bs) h → h .block < t .count / 128 → layout t bs ≡ ok l → FindsFrom t l bs (startBehind h)
   unfolding fullBlocks
   leaves-from b full e = record { laid-out = e; block-most = omega arith; inside = b .next-inside; entries-most = b .entries-behind }
 
-  -- ---- a step
+-- ---- a step
 
-  pub stepping-broken : inBounds t bs c ≡ false → stepping c bs t ≡ refused stateBroken
+-- the tail's last place is the end, so that only a full block is left by a step
+pub leaves-full : (h : Held) (size : ℕ) (t : Term) → inBounds t size h ≡ true → eqb (128 * h .block + h .place) (t .count) ≡ false → 128 ≤ h .place + 1
+    → h .block < t .count / 128
+leaves-full h size t in-bounds before last =
+    let b = bounded t size h in-bounds in
+    ⊎-elim (λ e. absurd (eqb-false _ _ before e)) (λ l. omega (arith, b .place-below)) (eq-or-lt-of-le (b .position-most))
+
+module _ (c : SegmentPostings) (bs : List ℕ) (t : Term) where
+  pub stepping-broken : inBounds t (length bs) (c .held) ≡ false → stepping c bs t ≡ refused stateBroken
   unfolding stepping ask
   stepping-broken e = rw e
 
-  module _ (in-bounds : inBounds t bs c ≡ true) where
+  module _ (in-bounds : inBounds t (length bs) (c .held) ≡ true) where
     pub stepping-ended : eqb (128 * c .held .block + c .held .place) (t .count) ≡ true → stepping c bs t ≡ ok c
     unfolding stepping ask choose position
     stepping-ended e = rw (in-bounds, e)
@@ -236,13 +244,7 @@ module _ (c : SegmentPostings) (bs : List ℕ) (t : Term) where
       unfolding stepping ask choose position
       stepping-within h = rw (in-bounds, before, lt-ltb _ _ h)
 
-      -- the tail's last place is the end, so that only a full block is left
-      pub leaves-full : 128 ≤ c .held .place + 1 → c .held .block < t .count / 128
-      leaves-full h =
-          let b = bounded t bs c in-bounds in
-          ⊎-elim (λ e. absurd (eqb-false _ _ before e)) (λ l. omega (arith, b .place-below)) (eq-or-lt-of-le (b .position-most))
-
-      pub stepping-leaves : 128 ≤ c .held .place + 1 → stepping c bs t ≡ leaving c bs t 0
+      pub stepping-leaves : 128 ≤ c .held .place + 1 → stepping c bs t ≡ leaving (c .held) bs t 0
       unfolding stepping ask choose position
       stepping-leaves h = rw (in-bounds, before, le-ltb _ _ h)
 
@@ -297,7 +299,7 @@ answering-nowhere t c above = rw (le-ltb _ _ above)
 pub answerAt-at : (t : Term) (c : SegmentPostings) {n : ℕ} → answerAt t c ≡ answer-as.Refused n → ⊥
 unfolding answerAt
 answerAt-at t c {n} =
-    choose-elim (λ (a : Answer). a ≡ answer-as.Refused n → ⊥) (eqb (position c) (t .count))
+    choose-elim (λ (a : Answer). a ≡ answer-as.Refused n → ⊥) (eqb (position (c .held)) (t .count))
     (λ _. answer-as.At TERMINATED 0 (c .held .unpacked) (c .held .entries))
     (λ _. answer-as.At (getD (c .docs) (c .held .place) 0) (getD (c .freqs) (c .held .place) 0) (c .held .unpacked) (c .held .entries))
     (λ _ k. let z : _≡_ {A = ℕ} 0 1 = cc in omega arith)

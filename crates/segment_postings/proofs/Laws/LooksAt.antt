@@ -6,7 +6,7 @@
 use mathlib.Core.Bool.{Bool, true, false, _&&_ as and}
 use mathlib.Core.List.{List}
 use mathlib.Core.Path.{_≡_, refl, sym, _∙_}
-use Prim.Native.Nat.{ℕ, zero, suc, _+_, _-_, _*_, _/_, _≤_, _<_, zero-le}
+use Prim.Native.Nat.{ℕ, zero, suc, _-_, _*_, _/_, _≤_, _<_, zero-le}
 use native.Mathlib.Nat.{mul-zero, add-sub-cancel-left}
 use native.Mathlib.Omega.{arith}
 use borrow.Author.Tests.{le-leb, lt-ltb}
@@ -24,7 +24,7 @@ use Rattle.format.proofs.LooksAt.{same-fewer, same-behind, same-full, same-layo
 use Rattle.segment_postings.specs.declared.find.Found.{Found}
 use Rattle.segment_postings.specs.declared.find.Start.{Start}
 use Rattle.segment_postings.specs.declared.SegmentPostings.{SegmentPostings}
-use Rattle.segment_postings.specs.LooksAt.{SameFront, bytesOf, leadsTo, SameThere, firstEnd}
+use Rattle.segment_postings.specs.LooksAt.{SameFront, bytesOf, SameThere, firstEnd}
 use Rattle.segment_postings.specs.Landing.{firstStart, startAfter, findBlock, loadBlock, landing}
 use Rattle.segment_postings.specs.Cursor.{inBounds, startBehind, opening, opened, leaving, advanced, sought}
 use Rattle.segment_postings.proofs.Laws.CursorTurns.{findBlock-zero, findBlock-suc, loadBlock-is, landing-is, opened-is}
@@ -72,13 +72,13 @@ module _ (t : Term) (l : Layout) (bs bs′ : List ℕ) where
 
 -- ---- the calls
 
-pub same-bounds : (c : SegmentPostings) (t : Term) (bs bs′ : List ℕ) → length bs ≡ length bs′ → inBounds t bs c ≡ inBounds t bs′ c
+pub same-bounds : (c : SegmentPostings) (t : Term) (bs bs′ : List ℕ) → length bs ≡ length bs′ → inBounds t (length bs) (c .held) ≡ inBounds t (length bs′) (c .held)
 unfolding inBounds
 same-bounds c t bs bs′ long = rw long
 
 module _ (c : SegmentPostings) (t : Term) (l : Layout) (bs bs′ : List ℕ) (laid : layout t bs ≡ ok l) (s : SameFront l bs bs′) where
   -- a cursor that leaves its block
-  pub lands-on-one : (target : ℕ) → SameThere c t l bs bs′ target → leaving c bs t target ≡ leaving c bs′ t target
+  pub lands-on-one : (target : ℕ) → SameThere c t l bs bs′ target → leaving (c .held) bs t target ≡ leaving (c .held) bs′ t target
   unfolding andThen
   lands-on-one target there =
       rw (leaving-is c bs t target, leaving-is c bs′ t target, laid, same-layout t l bs bs′ (s .long) (s .front) laid)

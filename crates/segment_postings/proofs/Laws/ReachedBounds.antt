@@ -10,6 +10,7 @@ use Prim.Native.Nat.{ℕ, _+_, _*_, _≤_, _<_}
 use native.Mathlib.Nat.{eq-or-lt-of-le}
 use native.Mathlib.Omega.{arith}
 use borrow.Author.Tests.{leb-true, ltb-true, ltb-false, eqb-false}
+use lib.ListN.{length}
 use Rattle.format.specs.declared.Term.{Term}
 use Rattle.format.specs.Basics.{Outcome, ok, TERMINATED}
 use Rattle.format.specs.Layout.{fullBlocks}
@@ -27,12 +28,12 @@ abbrev pub Near : Term → SegmentPostings → Type 0
 Near t d = (d .held .place < 128) × (128 * d .held .block + d .held .place ≤ t .count)
 
 module _ (c : SegmentPostings) (bs : List ℕ) (t : Term) where
-  stays-near : {d : SegmentPostings} → Bounded t bs c → ok c ≡ ok d → Near t d
+  stays-near : {d : SegmentPostings} → Bounded t (length bs) (c .held) → ok c ≡ ok d → Near t d
   stays-near b e = subst (Near t) (ok-same e) (b .place-below, b .position-most)
 
   -- ---- a step
 
-  leaving-near : {d : SegmentPostings} → c .held .block < fullBlocks t → leaving c bs t 0 ≡ ok d → Near t d
+  leaving-near : {d : SegmentPostings} → c .held .block < fullBlocks t → leaving (c .held) bs t 0 ≡ ok d → Near t d
   leaving-near full e =
       let laid = andThen-ok _ _ (sym (leaving-is c bs t 0) ∙ e) in
       let first = landing-first _ _ _ _ _ (ask-ok _ _ _ (laid .2) .1) in
@@ -43,7 +44,7 @@ module _ (c : SegmentPostings) (bs : List ℕ) (t : Term) where
   unfolding position atPlace fullBlocks
   stepping-near {d} e =
       let asked = ask-ok _ _ _ (sym (stepping-is c bs t) ∙ e) in
-      let in-bounds = bounded t bs c (asked .0) in
+      let in-bounds = bounded t (length bs) (c .held) (asked .0) in
       let goal : Outcome SegmentPostings → Type 0 = λ o. o ≡ ok d → Near t d in
       choose-elim goal _ _ _ (λ _. stays-near in-bounds)
       (λ before. choose-elim goal _ _ _
@@ -51,7 +52,7 @@ module _ (c : SegmentPostings) (bs : List ℕ) (t : Term) where
         ltb-true _ _ below,
         ⊎-elim (λ same. absurd (eqb-false _ _ before same)) (λ l. omega arith) (eq-or-lt-of-le (in-bounds .position-most)),
       ))
-      (λ above k. leaving-near (leaves-full c bs t (asked .0) before (ltb-false _ _ above)) k))
+      (λ above k. leaving-near (leaves-full (c .held) (length bs) t (asked .0) before (ltb-false _ _ above)) k))
       (asked .1)
 
   -- ---- a seek
@@ -76,7 +77,7 @@ module _ (c : SegmentPostings) (bs : List ℕ) (t : Term) where
     seeking-near {d} e =
         let asked = ask-ok _ _ _ (sym (seeking-is c bs t target) ∙ e) in
         let goal : Outcome SegmentPostings → Type 0 = λ o. o ≡ ok d → Near t d in
-        let stays : goal (ok c) = stays-near (bounded t bs c (asked .0)) in
+        let stays : goal (ok c) = stays-near (bounded t (length bs) (c .held) (asked .0)) in
         choose-elim goal _ _ _ (λ _. stays)
         (λ _ k.
         let small = ask-ok _ _ _ k in

@@ -5,6 +5,7 @@ use mathlib.Core.List.{List}
 use mathlib.Core.Path.{_≡_, sym}
 use Prim.Native.Nat.{ℕ, _<_}
 use native.Mathlib.Omega.{arith}
+use lib.ListN.{length}
 use Rattle.format.specs.declared.Term.{Term}
 use Rattle.format.specs.Basics.{refused, ask}
 use Rattle.format.specs.Refusal.{stateBroken}
@@ -13,12 +14,12 @@ use Rattle.segment_postings.proofs.core.Question16.{Bounded, out-of-bou
 use Rattle.segment_postings.proofs.Laws.CursorTurns.{stepping-is, seeking-is}
 
 module _ (bs : List ℕ) (t : Term) where
-  at-none : Bounded t bs blank → 128 < 128
+  at-none : Bounded t (length bs) (blank .held) → 128 < 128
   unfolding blank
   at-none b = b .place-below
 
-  blank-outside : inBounds t bs blank ≡ false
-  blank-outside = sym (out-of-bounds t bs blank (λ b. omega (arith, at-none b)))
+  blank-outside : inBounds t (length bs) (blank .held) ≡ false
+  blank-outside = sym (out-of-bounds t (length bs) (blank .held) (λ b. omega (arith, at-none b)))
 
   pub unopened-stepping : stepping blank bs t ≡ refused stateBroken
   unfolding ask
@@ -28,6 +29,6 @@ module _ (bs : List ℕ) (t : Term) where
   unfolding ask
   unopened-seeking target = rw (seeking-is, blank-outside)
 
-  pub unopened-value : (values : List ℕ) (end : ℕ) → valueAt values end blank bs t ≡ refused stateBroken
+  pub unopened-value : (values : List ℕ) (end : ℕ) → valueAt values end (blank .held) bs t ≡ refused stateBroken
   unfolding valueAt ask
   unopened-value values end = rw blank-outside

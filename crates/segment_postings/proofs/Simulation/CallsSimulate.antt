@@ -198,11 +198,11 @@ module _ {t : Term} {bs : List ℕ} where
         let s = k .sound in
         let stays = seek-stands (docs t bs) m target high in
         ⊎-elim
-        (λ (e : position c ≡ t .count).
+        (λ (e : position (c .held) ≡ t .count).
         let there : m .position ≡ length (docs t bs) = omega (arith, k .agrees .same-position, docs-count s) in
         rw (called-is, stays, answer-end (docs t bs) (freqs t bs) m target high there)
         (goes-to c s (k .agrees) (seeking-end s (k .agrees .holds) target e)))
-        (λ (l : position c < t .count).
+        (λ (l : position (c .held) < t .count).
         let there : m .position < length (docs t bs) = omega (arith, k .agrees .same-position, docs-count s) in
         rw (called-is, stays, answer-refused (docs t bs) (freqs t bs) m target high there, seeking-refused s (k .agrees .holds) target high l, moved-refused)
         (record { answer-is = refl; stands = k }))

@@ -70,7 +70,7 @@ module _ {t : Term} {bs : List ℕ} (s : Sound t bs) where
   start-inside (suc b) h = omega (arith, entryFits-true _ _ _ (entry-fits b h) .bytes, start-inside b (omega arith))
 
   -- what is known of a block that was found from block `from` on
-  pub record Lands (target from : ℕ) (f : Found) : Type 0 where
+  pub record FoundFor (target from : ℕ) (f : Found) : Type 0 where
     pub block-least : from ≤ f .block
     pub block-most : f .block ≤ fullBlocks t
     pub passed : (i : ℕ) → from ≤ i → i < f .block → blockAt blocks i .last < target
@@ -104,7 +104,7 @@ module _ {t : Term} {bs : List ℕ} (s : Sound t bs) where
       rw (loadBlock-is, le-ltb (fullBlocks t) (fullBlocks t) (omega arith), bytes-at) (tail-at _ _ _ _ _ _ _ _ _ (s .walk))
 
   full-lands : (target b entries : ℕ) → b < fullBlocks t → target ≤ blockAt blocks b .last → entries ≡ b + 1
-      → Lands target b (fullFound b entries)
+      → FoundFor target b (fullFound b entries)
   full-lands target b entries h reached e =
       let one-on : min (fullBlocks t) (b + 1) ≡ suc b = omega arith in
       record {
@@ -118,7 +118,7 @@ module _ {t : Term} {bs : List ℕ} (s : Sound t bs) where
         loads = full-loads b entries h;
       }
 
-  tail-lands : (target entries : ℕ) → entries ≡ fullBlocks t → Lands target (fullBlocks t) (tailFound entries)
+  tail-lands : (target entries : ℕ) → entries ≡ fullBlocks t → FoundFor target (fullBlocks t) (tailFound entries)
   unfolding tailInfo blockSize
   tail-lands target entries e =
       let all : min (fullBlocks t) (fullBlocks t + 1) ≡ fullBlocks t = omega arith in
@@ -134,7 +134,7 @@ module _ {t : Term} {bs : List ℕ} (s : Sound t bs) where
       }
 
   -- a block that is passed over
-  later-lands : (target b : ℕ) (f : Found) → blockAt blocks b .last < target → Lands target (suc b) f → Lands target b f
+  later-lands : (target b : ℕ) (f : Found) → blockAt blocks b .last < target → FoundFor target (suc b) f → FoundFor target b f
   later-lands target b f below k =
       record {
         block-least = omega (arith, k .block-least);
@@ -149,7 +149,7 @@ module _ {t : Term} {bs : List ℕ} (s : Sound t bs) where
 
   -- n full blocks are left
   pub search-lands : (target n b entries unpacked : ℕ) → b + n ≡ fullBlocks t → entries ≡ b
-      → (f : Found) × Lands target b f
+      → (f : Found) × FoundFor target b f
       × (findBlock (s .laid .option) (skipBytes (s .laid) bs) bs target n (startAt b entries unpacked) ≡ ok f)
   unfolding ask choose
   search-lands target zero b entries unpacked e k =

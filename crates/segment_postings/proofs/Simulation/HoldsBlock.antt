@@ -18,7 +18,7 @@ use Rattle.format.specs.declared.Term.{Term}
 use Rattle.format.specs.Basics.{ok, andThen, ask, choose, TERMINATED}
 use Rattle.format.specs.Layout.{fullBlocks}
 use Rattle.format.specs.Reading.{Block, reading, docsOf, freqsOf}
-use Rattle.format.proofs.Blocks.{blockAt, leastAt, full-sound, tail-sound, docs-many, freqs-many, doc-at, freq-at}
+use Rattle.format.proofs.Blocks.{blockAt, full-sound, tail-sound, docs-many, freqs-many, doc-at, freq-at}
 use Rattle.format.proofs.Sound.{Sound, sound-blocks, whole-count, tail-short}
 use Rattle.segment_postings.specs.declared.Answer.the-variants.{At}
 use Rattle.segment_postings.specs.declared.find.Found.{Found}
@@ -26,7 +26,7 @@ use Rattle.segment_postings.specs.declared.SegmentPostings.{SegmentPosti
 use Rattle.segment_postings.specs.Landing.{padded, holding, landing}
 use Rattle.segment_postings.specs.Cursor.{position, inBounds, answerAt, opening, atPlace}
 use Rattle.segment_postings.specs.Cursor.{leastAfter, leaving, stepping, valueAt, docAt, freqAt}
-use Rattle.segment_postings.proofs.Simulation.EntriesLeadTo.{startOf, startAt, last-below, start-inside, Lands, search-lands}
+use Rattle.segment_postings.proofs.Simulation.EntriesLeadTo.{startOf, startAt, last-below, start-inside, FoundFor, search-lands}
 use Rattle.segment_postings.proofs.Laws.LandingParts.{starts-behind}
 use Rattle.segment_postings.proofs.Laws.CursorTurns.{landing-is, answerAt-is, opening-is, leaving-is, stepping-is}
 
@@ -38,7 +38,7 @@ pub record Holds {t : Term} {bs : List ℕ} (s : Sound t bs) (c : SegmentPosting
   pub entries-are : c .held .entries ≡ min (fullBlocks t) (c .held .block + 1)
   pub block-most : c .held .block ≤ fullBlocks t
   pub place-most : c .held .place < 128
-  pub position-most : position c ≤ t .count
+  pub position-most : position (c .held) ≤ t .count
   pub unpacked-some : 1 ≤ c .held .unpacked
   pub unpacked-most : c .held .unpacked ≤ c .held .block + 1
 
@@ -57,7 +57,7 @@ module _ {t : Term} {bs : List ℕ} (s : Sound t bs) where
 
   -- ---- landing
 
-  holding-landed : (target from unpacked : ℕ) (f : Found) → unpacked ≤ from → Lands s target from f
+  holding-landed : (target from unpacked : ℕ) (f : Found) → unpacked ≤ from → FoundFor s target from f
       → Landed s target from unpacked (holding f unpacked (blockAt blocks (f .block)))
   unfolding holding position
   holding-landed target from unpacked f few k =
@@ -102,7 +102,7 @@ module _ {t : Term} {bs : List ℕ} (s : Sound t bs) where
 
   -- ---- in bounds
 
-  pub holds-inBounds : {c : SegmentPostings} → Holds s c → inBounds t bs c ≡ true
+  pub holds-inBounds : {c : SegmentPostings} → Holds s c → inBounds t (length bs) (c .held) ≡ true
   unfolding inBounds
   holds-inBounds {c} k =
       let next-inside : c .held .next ≤ length bs = rw (k .next-is) (start-inside s (min (fullBlocks t) (c .held .block + 1)) (omega arith)) in
@@ -120,15 +120,15 @@ module _ {t : Term} {bs : List ℕ} (s : Sound t bs) where
   -- a call that goes to position p, and counts one block more just where it comes to another
   pub record MovesTo (p : ℕ) (c c′ : SegmentPostings) : Type 0 where
     pub holds : Holds s c′
-    pub goes : position c′ ≡ p
+    pub goes : position (c′ .held) ≡ p
     pub stays : c′ .held .block ≡ c .held .block → c′ .held .unpacked ≡ c .held .unpacked
     pub grows : c .held .block < c′ .held .block → c′ .held .unpacked ≡ c .held .unpacked + 1
 
   module _ {c : SegmentPostings} (k : Holds s c) where
     abbrev Steps : SegmentPostings → Type 0
-    Steps c′ = MovesTo (min (position c + 1) (t .count)) c c′
+    Steps c′ = MovesTo (min (position (c .held) + 1) (t .count)) c c′
 
-    step-end : position c ≡ t .count → Steps c
+    step-end : position (c .held) ≡ t .count → Steps c
     step-end e = record { holds = k; goes = omega arith; stays = λ _. refl; grows = λ l. absurd (omega arith) }
 
     -- another place of the held block
@@ -148,7 +148,7 @@ module _ {t : Term} {bs : List ℕ} (s : Sound t bs) where
           unpacked-most = k .unpacked-most;
         }
 
-    step-place : position c < t .count → c .held .place + 1 < 128 → Steps (atPlace c (c .held .place + 1))
+    step-place : position (c .held) < t .count → c .held .place + 1 < 128 → Steps (atPlace c (c .held .place + 1))
     unfolding atPlace position
     step-place h l =
         record {
@@ -160,7 +160,7 @@ module _ {t : Term} {bs : List ℕ} (s : Sound t bs) where
 
     -- leaving a full block
     pub leaving-landed : (target : ℕ) → c .held .block < fullBlocks t
-        → (c′ : SegmentPostings) × Landed s target (suc (c .held .block)) (c .held .unpacked) c′ × (leaving c bs t target ≡ ok c′)
+        → (c′ : SegmentPostings) × Landed s target (suc (c .held .block)) (c .held .unpacked) c′ × (leaving (c .held) bs t target ≡ ok c′)
     unfolding andThen ask leastAfter
     leaving-landed target h =
         let p = landing-landed target (suc (c .held .block)) (c .held .unpacked) h (omega (arith, k .unpacked-most)) in
@@ -170,7 +170,7 @@ module _ {t : Term} {bs : List ℕ} (s : Sound t bs) where
         let inside = starts-behind t (s .laid) (suc (c .held .block)) (startOf (s .laid) bs (suc (c .held .block))) (omega arith) in
         (p .0, p .1, rw (leaving-is, s .found, k .next-is, k .last-is, k .entries-are, one-more, least, add-one (c .held .block), inside) (p .2))
 
-    step-leaves : position c < t .count → 128 ≤ c .held .place + 1 → (c′ : SegmentPostings) × Steps c′ × (leaving c bs t 0 ≡ ok c′)
+    step-leaves : position (c .held) < t .count → 128 ≤ c .held .place + 1 → (c′ : SegmentPostings) × Steps c′ × (leaving (c .held) bs t 0 ≡ ok c′)
     unfolding position
     step-leaves h l =
         let full : c .held .block < fullBlocks t = omega (arith, k .place-most, k .block-most, whole-count t, tail-short t) in
@@ -187,11 +187,11 @@ module _ {t : Term} {bs : List ℕ} (s : Sound t bs) where
         )
 
     -- a step that isn't at the end
-    stepping-on : position c < t .count
+    stepping-on : position (c .held) < t .count
         → stepping c bs t
-        ≡ (choose (ltb (c .held .place + 1) 128) (λ _. ok (atPlace c (c .held .place + 1))) λ _. leaving c bs t 0)
+        ≡ (choose (ltb (c .held .place + 1) 128) (λ _. ok (atPlace c (c .held .place + 1))) λ _. leaving (c .held) bs t 0)
     unfolding ask choose
-    stepping-on h = rw (stepping-is, holds-inBounds k, ne-eqb (position c) (t .count) (λ e. omega arith))
+    stepping-on h = rw (stepping-is, holds-inBounds k, ne-eqb (position (c .held)) (t .count) (λ e. omega arith))
 
     pub stepping-steps : (c′ : SegmentPostings) × Steps c′ × (stepping c bs t ≡ ok c′)
     unfolding ask choose
@@ -230,53 +230,53 @@ module _ {t : Term} {bs : List ℕ} (s : Sound t bs) {c : SegmentPostings} (k : 
   block = blockAt (reading t bs .blocks) (c .held .block)
 
   -- below the count the place is one of the block's documents
-  pub place-there : position c < t .count → (c .held .place < length (block .docs)) × (c .held .place < length (block .freqs))
+  pub place-there : position (c .held) < t .count → (c .held .place < length (block .docs)) × (c .held .place < length (block .freqs))
   unfolding position
   place-there h = ⊎-elim
       (λ e. let f = tail-sound (sound-blocks s) in rw e (omega (arith, f .sound .docs-many, f .sound .freqs-many, whole-count t)))
       (λ l. let f = full-sound (sound-blocks s) (c .held .block) l in omega (arith, f .sound .docs-many, f .sound .freqs-many, k .place-most))
       (eq-or-lt-of-le (k .block-most))
 
-  pub doc-there : position c < t .count → getD (c .docs) (c .held .place) 0 ≡ getD docs (position c) TERMINATED
+  pub doc-there : position (c .held) < t .count → getD (c .docs) (c .held .place) 0 ≡ getD docs (position (c .held)) TERMINATED
   unfolding position
   doc-there h =
       rw (k .docs-are, padded-there _ (block .docs) (c .held .place) 0 TERMINATED (place-there h .0))
       (sym (doc-at (sound-blocks s) (c .held .block) (c .held .place) TERMINATED (k .block-most) (k .place-most)))
 
-  freq-there : position c < t .count → getD (c .freqs) (c .held .place) 0 ≡ getD freqs (position c) 0
+  freq-there : position (c .held) < t .count → getD (c .freqs) (c .held .place) 0 ≡ getD freqs (position (c .held)) 0
   unfolding position
   freq-there h =
       rw (k .freqs-are, padded-there _ (block .freqs) (c .held .place) 0 0 (place-there h .1))
       (sym (freq-at (sound-blocks s) (c .held .block) (c .held .place) 0 (k .block-most) (k .place-most)))
 
   -- at the end there is none
-  no-doc : position c ≡ t .count → getD docs (position c) TERMINATED ≡ TERMINATED
+  no-doc : position (c .held) ≡ t .count → getD docs (position (c .held)) TERMINATED ≡ TERMINATED
   no-doc e = List·getD-eq-default docs TERMINATED (omega (arith, docs-many (sound-blocks s), whole-count t))
 
-  no-freq : position c ≡ t .count → getD freqs (position c) 0 ≡ 0
+  no-freq : position (c .held) ≡ t .count → getD freqs (position (c .held)) 0 ≡ 0
   no-freq e = List·getD-eq-default freqs 0 (omega (arith, freqs-many (sound-blocks s), whole-count t))
 
-  pub answer-holds : answerAt t c ≡ At (getD docs (position c) TERMINATED) (getD freqs (position c) 0) (c .held .unpacked) (c .held .entries)
+  pub answer-holds : answerAt t c ≡ At (getD docs (position (c .held)) TERMINATED) (getD freqs (position (c .held)) 0) (c .held .unpacked) (c .held .entries)
   unfolding choose
   answer-holds =
       ⊎-elim
-      (λ e. rw (answerAt-is, eq-eqb (position c) (t .count) e, no-doc e, no-freq e))
-      (λ h. rw (answerAt-is, ne-eqb (position c) (t .count) (λ e. omega arith), doc-there h, freq-there h))
+      (λ e. rw (answerAt-is, eq-eqb (position (c .held)) (t .count) e, no-doc e, no-freq e))
+      (λ h. rw (answerAt-is, ne-eqb (position (c .held)) (t .count) (λ e. omega arith), doc-there h, freq-there h))
       (eq-or-lt-of-le (k .position-most))
 
   -- the document and the frequency, as calls of their own
-  pub doc-holds : docAt c bs t ≡ ok (getD docs (position c) TERMINATED)
+  pub doc-holds : docAt c bs t ≡ ok (getD docs (position (c .held)) TERMINATED)
   unfolding docAt valueAt ask choose
   doc-holds =
       ⊎-elim
-      (λ e. rw (holds-inBounds s k, eq-eqb (position c) (t .count) e, no-doc e))
-      (λ h. rw (holds-inBounds s k, ne-eqb (position c) (t .count) (λ e. omega arith), doc-there h))
+      (λ e. rw (holds-inBounds s k, eq-eqb (position (c .held)) (t .count) e, no-doc e))
+      (λ h. rw (holds-inBounds s k, ne-eqb (position (c .held)) (t .count) (λ e. omega arith), doc-there h))
       (eq-or-lt-of-le (k .position-most))
 
-  pub freq-holds : freqAt c bs t ≡ ok (getD freqs (position c) 0)
+  pub freq-holds : freqAt c bs t ≡ ok (getD freqs (position (c .held)) 0)
   unfolding freqAt valueAt ask choose
   freq-holds =
       ⊎-elim
-      (λ e. rw (holds-inBounds s k, eq-eqb (position c) (t .count) e, no-freq e))
-      (λ h. rw (holds-inBounds s k, ne-eqb (position c) (t .count) (λ e. omega arith), freq-there h))
+      (λ e. rw (holds-inBounds s k, eq-eqb (position (c .held)) (t .count) e, no-freq e))
+      (λ h. rw (holds-inBounds s k, ne-eqb (position (c .held)) (t .count) (λ e. omega arith), freq-there h))
       (eq-or-lt-of-le (k .position-most))

@@ -39,7 +39,7 @@ module _ (mode count : ℕ) (bs : List ℕ) (target : ℕ) where
   rank-in s small =
       let p = opening-landed s in
       let q = seeking-seeks s (p .1 .holds) target small in
-      let first : position (p .0) ≡ 0 = omega (arith, landed-there s (p .1), p .1 .place-first) in
+      let first : position (p .0 .held) ≡ 0 = omega (arith, landed-there s (p .1), p .1 .place-first) in
       ranking-found mode count bs target small (fresh-opened bs (term 0) target (p .2) ∙ q .2) ∙ ap ok (omega (arith, q .1 .goes))
 
   module _ (sound : soundness mode count bs ≡ 0) (small : target ≤ TERMINATED) where

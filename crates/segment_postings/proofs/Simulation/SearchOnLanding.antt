@@ -112,7 +112,7 @@ module _ (t : Term) (bs : List ℕ) (l : Layout) (target : ℕ) (small : target 
       (load-placed (found .0) (s .unpacked) (omega (arith, k .block-most)) (λ m. k .reaches (omega arith)) (block .1))
 
 pub leaving-placed : (c : SegmentPostings) (bs : List ℕ) (t : Term) (target : ℕ) {d : SegmentPostings} → target ≤ TERMINATED
-    → c .held .block < fullBlocks t → leaving c bs t target ≡ ok d → Placed t target d
+    → c .held .block < fullBlocks t → leaving (c .held) bs t target ≡ ok d → Placed t target d
 leaving-placed c bs t target small full e =
     let laid = andThen-ok _ _ (sym (leaving-is c bs t target) ∙ e) in
     landing-placed t bs _ target small (startBehind (c .held)) (omega arith) (ask-ok _ _ _ (laid .2) .1)

@@ -33,17 +33,17 @@ module _ {t : Term} {bs : List ℕ} (s : Sound t bs) where
   abbrev firstAt : ℕ → ℕ
   firstAt target = countBelow target (docsOf blocks)
 
-  module _ {c : SegmentPostings} (k : Holds s c) (target : ℕ) (inside : position c < t .count) where
+  module _ {c : SegmentPostings} (k : Holds s c) (target : ℕ) (inside : position (c .held) < t .count) where
     -- the present document is at least the target: nowhere
-    pub seek-stays : target ≤ getD (c .docs) (c .held .place) 0 → firstAt target ≤ position c
+    pub seek-stays : target ≤ getD (c .docs) (c .held .place) 0 → firstAt target ≤ position (c .held)
     seek-stays h =
-        by-contra _ _ (λ m. omega (arith, count-below target (docsOf blocks) (position c) TERMINATED m, doc-there s k inside))
+        by-contra _ _ (λ m. omega (arith, count-below target (docsOf blocks) (position (c .held)) TERMINATED m, doc-there s k inside))
 
     module _ (ahead : getD (c .docs) (c .held .place) 0 < target) where
       -- the present one lies below it, so onward
-      pub seek-onward : position c < firstAt target
+      pub seek-onward : position (c .held) < firstAt target
       seek-onward =
-          count-above target 0 (docsOf blocks) (position c) TERMINATED (docs-rising (sound-blocks s))
+          count-above target 0 (docsOf blocks) (position (c .held)) TERMINATED (docs-rising (sound-blocks s))
           (omega (arith, docs-many (sound-blocks s), whole-count t)) (omega (arith, doc-there s k inside))
 
       -- the blocks before the held one end below it too
@@ -101,6 +101,6 @@ module _ {t : Term} {bs : List ℕ} (s : Sound t bs) where
             grows = λ _. l .unpacked-one;
           }
 
-    pub leaving-moves : (c′ : SegmentPostings) × (leaving c bs t target ≡ ok c′)
+    pub leaving-moves : (c′ : SegmentPostings) × (leaving (c .held) bs t target ≡ ok c′)
         × MovesTo s (firstAt target) c (atPlace c′ (searchBlock (c′ .docs) target))
     leaving-moves = let p = leaving-landed s k target left-full in (p .0, p .2, landed-moves (p .1))

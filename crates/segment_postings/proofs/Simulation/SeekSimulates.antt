@@ -35,26 +35,26 @@ module _ {t : Term} {bs : List ℕ} (s : Sound t bs) where
   docs = docsOf (reading t bs .blocks)
 
   -- a call that stays where it is
-  stands : {c : SegmentPostings} → Holds s c → MovesTo s (position c) c c
+  stands : {c : SegmentPostings} → Holds s c → MovesTo s (position (c .held)) c c
   stands k = record { holds = k; goes = refl; stays = λ _. refl; grows = λ l. absurd (omega arith) }
 
   module _ {c : SegmentPostings} (k : Holds s c) (target : ℕ) where
     -- at the end nothing, whatever the target
-    pub seeking-end : position c ≡ t .count → seeking c bs t target ≡ ok c
+    pub seeking-end : position (c .held) ≡ t .count → seeking c bs t target ≡ ok c
     unfolding ask choose
-    seeking-end e = rw (seeking-is, holds-inBounds s k, eq-eqb (position c) (t .count) e)
+    seeking-end e = rw (seeking-is, holds-inBounds s k, eq-eqb (position (c .held)) (t .count) e)
 
     -- else a target above TERMINATED is refused
-    pub seeking-refused : TERMINATED < target → position c < t .count → seeking c bs t target ≡ refused targetTooLarge
+    pub seeking-refused : TERMINATED < target → position (c .held) < t .count → seeking c bs t target ≡ refused targetTooLarge
     unfolding ask choose
     seeking-refused high inside =
-        rw (seeking-is, holds-inBounds s k, ne-eqb (position c) (t .count) (λ e. omega arith), lt-leb target TERMINATED high)
+        rw (seeking-is, holds-inBounds s k, ne-eqb (position (c .held)) (t .count) (λ e. omega arith), lt-leb target TERMINATED high)
 
   module _ {c : SegmentPostings} (k : Holds s c) (target : ℕ) (most : target ≤ TERMINATED) where
     abbrev Seeks : SegmentPostings → Type 0
-    Seeks c′ = MovesTo s (max (position c) (countBelow target docs)) c c′
+    Seeks c′ = MovesTo s (max (position (c .held)) (countBelow target docs)) c c′
 
-    within-ok : (inside : position c < t .count) (ahead : getD (c .docs) (c .held .place) 0 < target) (held : target ≤ c .held .«last_doc»)
+    within-ok : (inside : position (c .held) < t .count) (ahead : getD (c .docs) (c .held .place) 0 < target) (held : target ≤ c .held .«last_doc»)
         → within c t target ≡ ok (atPlace c (placeOf c target))
     unfolding within placeOf
     within-ok inside ahead held =
@@ -66,7 +66,7 @@ module _ {t : Term} {bs : List ℕ} (s : Sound t bs) where
         )
 
     -- where the present document lies below the target
-    onward : (inside : position c < t .count) (ahead : getD (c .docs) (c .held .place) 0 < target)
+    onward : (inside : position (c .held) < t .count) (ahead : getD (c .docs) (c .held .place) 0 < target)
         → (c′ : SegmentPostings) × MovesTo s (countBelow target docs) c c′
         × (choose (leb target (c .held .«last_doc»)) (λ _. within c t target) (λ _. behind c bs t target) ≡ ok c′)
     unfolding choose ask andThen placeOf
@@ -78,29 +78,29 @@ module _ {t : Term} {bs : List ℕ} (s : Sound t bs) where
           (_, p .2, rw (lt-leb target _ below, behind-is, lt-ltb _ _ (left-full s k target below most), p .1))
     ]
 
-    seeking-on : position c < t .count
+    seeking-on : position (c .held) < t .count
         → seeking c bs t target
         ≡ (choose (leb target (getD (c .docs) (c .held .place) 0)) (λ _. ok c) λ _.
         choose (leb target (c .held .«last_doc»)) (λ _. within c t target) (λ _. behind c bs t target))
     unfolding ask choose
     seeking-on h =
-        rw (seeking-is, holds-inBounds s k, ne-eqb (position c) (t .count) (λ e. omega arith), le-leb target TERMINATED most)
+        rw (seeking-is, holds-inBounds s k, ne-eqb (position (c .held)) (t .count) (λ e. omega arith), le-leb target TERMINATED most)
 
     pub seeking-seeks : (c′ : SegmentPostings) × Seeks c′ × (seeking c bs t target ≡ ok c′)
     unfolding choose
     seeking-seeks =
         ⊎-elim
         (λ e.
-        let here : max (position c) (countBelow target docs) ≡ position c = omega (arith, count-le target docs, docs-count s) in
+        let here : max (position (c .held)) (countBelow target docs) ≡ position (c .held) = omega (arith, count-le target docs, docs-count s) in
         (c, rw here (stands k), seeking-end k target e))
         (λ inside. elim (decLe target (getD (c .docs) (c .held .place) 0)) [
           | yes h ↦
-              let here : max (position c) (countBelow target docs) ≡ position c = omega (arith, seek-stays s k target inside h) in
+              let here : max (position (c .held)) (countBelow target docs) ≡ position (c .held) = omega (arith, seek-stays s k target inside h) in
               (c, rw here (stands k), rw (seeking-on inside, le-leb target _ h))
           | no h ↦
               let ahead : getD (c .docs) (c .held .place) 0 < target = omega arith in
               let further = seek-onward s k target inside ahead in
-              let there : max (position c) (countBelow target docs) ≡ countBelow target docs = omega arith in
+              let there : max (position (c .held)) (countBelow target docs) ≡ countBelow target docs = omega arith in
               let p = onward inside ahead in
               (p .0, rw there (p .1), rw (seeking-on inside, lt-leb target _ ahead) (p .2))
         ])

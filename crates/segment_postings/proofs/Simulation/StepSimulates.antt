@@ -24,7 +24,7 @@ use Rattle.segment_postings.proofs.Simulation.HoldsBlock.{Holds, MovesT
 
 pub record Agrees {t : Term} {bs : List ℕ} (s : Sound t bs) (c : SegmentPostings) (m : State) : Type 0 where
   pub holds : Holds s c
-  pub same-position : position c ≡ m .position
+  pub same-position : position (c .held) ≡ m .position
   pub same-count : c .held .unpacked ≡ length (m .visited)
   pub tracked : Tracked (length (docsOf (reading t bs .blocks))) m
 
@@ -39,11 +39,11 @@ module _ {t : Term} {bs : List ℕ} (s : Sound t bs) where
   docs-count = docs-many (sound-blocks s) ∙ whole-count t
 
   -- the held block is the position's
-  pub block-of : {c : SegmentPostings} → Holds s c → position c / 128 ≡ c .held .block
+  pub block-of : {c : SegmentPostings} → Holds s c → position (c .held) / 128 ≡ c .held .block
   unfolding position
   block-of k = omega (arith, k .place-most)
 
-  entries-read : {c : SegmentPostings} → Holds s c → c .held .entries ≡ entriesRead (t .count) (position c)
+  entries-read : {c : SegmentPostings} → Holds s c → c .held .entries ≡ entriesRead (t .count) (position (c .held))
   unfolding entriesRead fullBlocks
   entries-read k = k .entries-are ∙ ap (λ b. min (t .count / 128) (b + 1)) (sym (block-of k))
 

@@ -2,29 +2,27 @@
 -- Assumes nothing.
 use mathlib.Core.Path.{_≡_, refl, sym}
 use mathlib.Core.Bool.{Bool, true, false, and-eq-true-iff}
-use mathlib.Core.List.{List}
 use Prim.Native.Nat.{ℕ, _+_, _*_, _/_, _%_, _≤_, _<_}
 use native.Mathlib.Nat.{le-trans, le-min, min-le-left, min-le-right}
 use native.Mathlib.Omega.{arith}
 use lib.Dec.{eqb}
-use lib.ListN.{length}
 use borrow.Author.Tests.{leb-true, ltb-true, eqb-true, eqb-false, le-leb, lt-ltb, eq-eqb, ne-eqb}
 use Rattle.format.specs.declared.Term.{Term}
-use Rattle.segment_postings.specs.declared.SegmentPostings.{SegmentPostings}
-use Rattle.segment_postings.specs.Cursor.{inBounds}
+use Rattle.segment_postings.specs.declared.Held.{Held}
+use Rattle.segment_postings.specs.Cursor.{position, inBounds}
 
-pub record Bounded (t : Term) (bs : List ℕ) (c : SegmentPostings) : Type 0 where
-  pub block-most : c .held .block ≤ t .count / 128
-  pub place-below : c .held .place < 128
-  pub position-most : 128 * c .held .block + c .held .place ≤ t .count
-  pub next-inside : c .held .next ≤ length bs
-  pub unpacked-most : c .held .unpacked ≤ c .held .block + 1
-  pub entries-behind : c .held .entries ≤ c .held .block + 1
-  pub entries-most : c .held .entries ≤ t .count / 128
+pub record Bounded (t : Term) (size : ℕ) (h : Held) : Type 0 where
+  pub block-most : h .block ≤ t .count / 128
+  pub place-below : h .place < 128
+  pub position-most : 128 * h .block + h .place ≤ t .count
+  pub next-inside : h .next ≤ size
+  pub unpacked-most : h .unpacked ≤ h .block + 1
+  pub entries-behind : h .entries ≤ h .block + 1
+  pub entries-most : h .entries ≤ t .count / 128
 
-module _ (t : Term) (bs : List ℕ) (c : SegmentPostings) where
-  pub bounded : inBounds t bs c ≡ true → Bounded t bs c
-  unfolding inBounds
+module _ (t : Term) (size : ℕ) (h : Held) where
+  pub bounded : inBounds t size h ≡ true → Bounded t size h
+  unfolding inBounds position
   bounded e =
       let block = and-eq-true-iff _ _ .0 e in
       let place = and-eq-true-iff _ _ .0 (block .1) in
@@ -41,16 +39,16 @@ module _ (t : Term) (bs : List ℕ) (c : SegmentPostings) where
         entries-most = le-trans (leb-true _ _ (counts .1)) (min-le-right _ _);
       }
 
-  pub in-bounds : Bounded t bs c → inBounds t bs c ≡ true
-  unfolding inBounds
+  pub in-bounds : Bounded t size h → inBounds t size h ≡ true
+  unfolding inBounds position
   in-bounds b =
       rw (le-leb _ _ (b .block-most), lt-ltb _ _ (b .place-below), le-leb _ _ (b .position-most), le-leb _ _ (b .next-inside), le-leb _ _ (b .unpacked-most))
       (le-leb _ _ (le-min (b .entries-behind) (b .entries-most)))
 
-  pub out-of-bounds : (Bounded t bs c → ⊥) → false ≡ inBounds t bs c
-  out-of-bounds never = go (inBounds t bs c) refl
+  pub out-of-bounds : (Bounded t size h → ⊥) → false ≡ inBounds t size h
+  out-of-bounds never = go (inBounds t size h) refl
     where
-      go : (r : Bool) → inBounds t bs c ≡ r → false ≡ r
+      go : (r : Bool) → inBounds t size h ≡ r → false ≡ r
       go true e = absurd (never (bounded e))
       go false e = refl
 

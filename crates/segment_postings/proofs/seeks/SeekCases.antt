@@ -6,7 +6,7 @@ use mathlib.Core.Path.{_≡_, refl}
 use Prim.Native.Nat.{ℕ, _+_, _*_, _/_, _≤_, _<_}
 use borrow.Author.Tests.{leb-true, ltb-true, le-leb, lt-leb, lt-ltb, le-ltb}
 use lib.Dec.{eqb, leb, ltb}
-use lib.ListN.{getD}
+use lib.ListN.{length, getD}
 use Rattle.format.specs.declared.Term.{Term}
 use Rattle.format.specs.Basics.{Outcome, ok, refused, andThen, ask, choose, TERMINATED, orBefore}
 use Rattle.format.specs.Refusal.{targetTooLarge, stateBroken}
@@ -95,18 +95,18 @@ module _ (c : SegmentPostings) (bs : List ℕ) (t : Term) (target : ℕ) where
   behind-tail h = rw (behind-is, le-ltb _ _ h)
 
   pub behind-full : c .held .block < t .count / 128
-      → behind c bs t target ≡ andThen (leaving c bs t target) λ landed. ok (atPlace landed (placeOf landed target))
+      → behind c bs t target ≡ andThen (leaving (c .held) bs t target) λ landed. ok (atPlace landed (placeOf landed target))
   unfolding ask fullBlocks
   behind-full h = rw (behind-is, lt-ltb _ _ h)
 
 -- ---- a seek
 
 module _ (c : SegmentPostings) (bs : List ℕ) (t : Term) (target : ℕ) where
-  pub seeking-broken : inBounds t bs c ≡ false → seeking c bs t target ≡ refused stateBroken
+  pub seeking-broken : inBounds t (length bs) (c .held) ≡ false → seeking c bs t target ≡ refused stateBroken
   unfolding ask
   seeking-broken e = rw (seeking-is, e)
 
-  module _ (in-bounds : inBounds t bs c ≡ true) where
+  module _ (in-bounds : inBounds t (length bs) (c .held) ≡ true) where
     pub seeking-ended : eqb (128 * c .held .block + c .held .place) (t .count) ≡ true → seeking c bs t target ≡ ok c
     unfolding ask choose position
     seeking-ended e = rw (seeking-is, in-bounds, e)
@@ -147,7 +147,7 @@ module _ (mode count : ℕ) (bs : List ℕ) (target : ℕ) where
 
   pub ranking-is : ranking mode count bs target
       ≡ (ask (leb target TERMINATED) targetTooLarge λ _.
-      andThen (seekingFresh bs term target) λ c. ok (position c))
+      andThen (seekingFresh bs term target) λ c. ok (position (c .held)))
   unfolding ranking
   ranking-is = refl
 

@@ -1,6 +1,5 @@
--- `skip::width_byte` meets its contract.
+-- `skip::width_byte` meets its contract, in the strict form and in the non-strict one.
 -- Assumes nothing.
-use mathlib.Core.Path.{sym}
 use native.Mathlib.Nat.{add-zero}
 use borrow.Author.Needs.{needs}
 use Rattle.format.specs.Basics.{choose}

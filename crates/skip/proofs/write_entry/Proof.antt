@@ -9,7 +9,8 @@ use borrow.Author.Needs.{needs}
 use borrow.Author.Tests.{lt-ltb, le-ltb}
 use Rattle.format.specs.Basics.{choose, le32}
 use Rattle.skip.specs.Entry.{entryNext, entryPut}
-use Rattle.skip.proofs.Entry.{size-most, take-entry}
+use Rattle.format.proofs.SkipEntry.{size-most}
+use Rattle.skip.proofs.Entry.{take-entry}
 use Rattle.skip.proofs.write_entry.Statement.{statement}
 use Rattle.skip.proofs.write_entry.Tie as tie
 

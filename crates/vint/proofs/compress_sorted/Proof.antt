@@ -1,6 +1,5 @@
 -- `vint::compress_sorted` meets its contract: the size is asked first. The invariant: the differences still to come,
 -- put at `next`, make of the slice what all of them make of it at entry. The measure is the documents left. Assumes nothing.
-use mathlib.Core.Path.{sym, _∙_}
 use Prim.Native.Nat.{_-_, _≤_}
 use native.Mathlib.Nat.{add-zero}
 use native.Mathlib.Omega.{arith}

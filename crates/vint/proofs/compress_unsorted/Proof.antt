@@ -1,6 +1,5 @@
 -- `vint::compress_unsorted` meets its contract: the size is asked first. The invariant: the values still to come,
 -- put at `next`, make of the slice what all of them make of it at entry. The measure is the values left. Assumes nothing.
-use mathlib.Core.Path.{sym, _∙_}
 use Prim.Native.Nat.{_-_, _≤_}
 use native.Mathlib.Omega.{arith}
 use borrow.Author.Needs.{needs}

@@ -6,7 +6,6 @@ use mathlib.Core.List.{List, _∷_}
 use Prim.Native.Nat.{ℕ, zero, suc, _≤_, _-_, _+_}
 use native.Mathlib.Numerals.{add-one}
 use native.Mathlib.Omega.{arith}
-use denote.Ref.{now}
 use lib.Dec.{eqb}
 use lib.ListN.{getD, take}
 use lib.Seq.{slice, slice-cons, slice-empty}

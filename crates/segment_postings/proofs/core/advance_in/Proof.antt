@@ -1,11 +1,11 @@
 -- `segment_postings::core::advance_in` meets its contract: its tests are the definition's, in turn.
 -- Assumes nothing.
-use mathlib.Core.Path.{_≡_, refl, sym, _∙_}
+use mathlib.Core.Path.{_≡_, sym, _∙_}
 use mathlib.Core.Bool.{true}
 use native.Mathlib.Omega.{arith}
 use borrow.Author.Tests.{not-true, not-false}
+use lib.ListN.{length}
 use Rattle.segment_postings.specs.Cursor.{inBounds, atPlace}
-use Rattle.segment_postings.specs.Calls.{cursorOf}
 use Rattle.segment_postings.proofs.core.Question16.{bounded}
 use Rattle.segment_postings.proofs.Laws.LandingParts.{reaches-as, none-reached, held-reached, stepping-broken, stepping-ended, stepping-within, leaves-full, stepping-leaves}
 use borrow.Author.Needs.{needs}
@@ -17,11 +17,11 @@ in-bounds-requires c κs = search needs
 
 returns : tie.Need-returns
 returns c =
-    none-reached _ _ (stepping-broken _ _ _ (sym (c .before .in-bounds .ensures _ _ _ refl) ∙ not-true _ (c .if1 .taken)))
+    none-reached _ _ (stepping-broken _ _ _ (sym (c .before .in-bounds .ensures) ∙ not-true _ (c .if1 .taken)))
 
 in-bounds : (c : tie.Else1) → let s = c .before .before .before in
-    inBounds (s .args .term) (s .args .image .now) (cursorOf (s .args .held) (s .args .docs .now) (s .args .freqs .now)) ≡ true
-in-bounds c = sym (c .before .in-bounds .ensures _ _ _ refl) ∙ not-false _ (c .if1 .left)
+    inBounds (s .args .term) (length (s .args .image .now)) (s .args .held) ≡ true
+in-bounds c = sym (c .before .in-bounds .ensures) ∙ not-false _ (c .if1 .left)
 
 at-end-requires : tie.Need-at-end-requires
 at-end-requires c κs = bounded _ _ _ (in-bounds c) .place-below
@@ -33,11 +33,16 @@ returns-2 c =
 add-place : tie.Need-add-place
 add-place c = omega (arith, bounded _ _ _ (in-bounds (c .before .before .before)))
 
+at-place-requires : tie.Need-at-place-requires
+at-place-requires c κs = search needs
+
 returns-3 : tie.Need-returns-3
 unfolding atPlace
 returns-3 c =
-    let e = c .before .before in
-    held-reached _ _ _ (stepping-within _ _ _ (in-bounds (e .before .before)) (sym (e .before .at-end .ensures) ∙ e .if2 .left) (c .if3 .taken))
+    let f = c .before in
+    let e = f .before .before in
+    rw (c .at-place .ensures)
+    (held-reached _ _ _ (stepping-within _ _ _ (in-bounds (e .before .before)) (sym (e .before .at-end .ensures) ∙ e .if2 .left) (f .if3 .taken)))
 
 leave-whole-requires : tie.Need-leave-whole-requires
 leave-whole-requires c κs =
@@ -63,6 +68,7 @@ advance-in-spec =
     at-end-requires
     returns-2
     add-place
+    at-place-requires
     returns-3
     leave-whole-requires
     returns-4)

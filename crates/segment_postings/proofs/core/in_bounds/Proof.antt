@@ -11,10 +11,10 @@ cast-count : tie.Need-cast-count
 cast-count c = search needs
 
 returns : tie.Need-returns
-returns c bs docs freqs e = out-of-bounds _ bs _ (λ b. omega arith)
+returns c = out-of-bounds _ _ _ (λ b. omega arith)
 
 returns-2 : tie.Need-returns-2
-returns-2 c bs docs freqs e = out-of-bounds _ bs _ (λ b. omega arith)
+returns-2 c = out-of-bounds _ _ _ (λ b. omega arith)
 
 mul-if3 : tie.Need-mul-if3
 mul-if3 c = search needs
@@ -23,27 +23,27 @@ add-if3 : tie.Need-add-if3
 add-if3 c = search needs
 
 returns-3 : tie.Need-returns-3
-returns-3 c bs docs freqs e = out-of-bounds _ bs _ (λ b. omega arith)
+returns-3 c = out-of-bounds _ _ _ (λ b. omega arith)
 
 returns-4 : tie.Need-returns-4
-returns-4 c bs docs freqs e = out-of-bounds _ bs _ (λ b. omega arith)
+returns-4 c = out-of-bounds _ _ _ (λ b. omega arith)
 
 add-reached : tie.Need-add-reached
 add-reached c = search needs
 
 returns-5 : tie.Need-returns-5
-returns-5 c bs docs freqs e = out-of-bounds _ bs _ (λ b. omega arith)
+returns-5 c = out-of-bounds _ _ _ (λ b. omega arith)
 
 returns-6 : tie.Need-returns-6
-returns-6 c bs docs freqs e = out-of-bounds _ bs _ (λ b. omega arith)
+returns-6 c = out-of-bounds _ _ _ (λ b. omega arith)
 
 returns-7 : tie.Need-returns-7
-returns-7 c bs docs freqs e = out-of-bounds _ bs _ (λ b. omega arith)
+returns-7 c = out-of-bounds _ _ _ (λ b. omega arith)
 
 returns-8 : tie.Need-returns-8
-returns-8 c bs docs freqs e =
+returns-8 c =
     sym
-    (in-bounds _ bs _
+    (in-bounds _ _ _
     (record {
       block-most = omega arith;
       place-below = omega arith;

@@ -2,13 +2,12 @@
 -- answered again and the next block begins inside the posting bytes. The cursor's numbers are in bounds, so that no sum wraps.
 -- Assumes nothing.
 use mathlib.Core.Path.{_≡_, sym, _∙_}
-use mathlib.Core.List.{[]}
 use Prim.Native.Nat.{_+_, _^_, _<_}
 use native.Mathlib.Omega.{arith}
 use borrow.Author.Tests.{not-true, not-false}
+use lib.ListN.{length}
 use Rattle.format.specs.Basics.{ok}
 use Rattle.format.specs.Layout.{layout}
-use Rattle.segment_postings.specs.Calls.{cursorOf}
 use Rattle.segment_postings.specs.Cursor.{startBehind}
 use Rattle.segment_postings.proofs.core.Question16.{Bounded, bounded}
 use Rattle.segment_postings.proofs.Laws.LandingParts.{laid-at, laid-refused, lands-as, none-lands, leaving-laid, leaving-early, leaving-refused, leaves-from}
@@ -22,9 +21,8 @@ lay-out-requires c κs = search needs
 enum-known-layout : tie.Need-enum-known-layout
 enum-known-layout c = search needs
 
--- the arrays don't matter
-in-bounds : (s : tie.Start) → Bounded (s .args .term) (s .args .image .now) (cursorOf (s .args .held) [] [])
-in-bounds s = bounded _ _ _ (s .pre .0 [] [])
+in-bounds : (s : tie.Start) → Bounded (s .args .term) (length (s .args .image .now)) (s .args .held)
+in-bounds s = bounded _ _ _ (s .pre .0)
 
 few : (s : tie.Start) → s .args .held .unpacked + 1 < 2 ^ 64
 few s = omega (arith, in-bounds s)
@@ -45,9 +43,9 @@ laid : (l : tie.After-layout) → let s = l .before .before .before .before in
 laid l = laid-at _ (sym (l .before .before .lay-out .ensures) ∙ l .layout .given .1)
 
 returns : tie.Need-returns
-returns c ds fs =
+returns c =
     let k = c .before in
-    none-lands _ _ (leaving-early (cursorOf _ ds fs) _ _ _ (laid (k .before .before .before)) (rw (behind (k .before)) at (sym (k .starts-inside .ensures) ∙ not-true _ (c .if1 .taken))))
+    none-lands _ _ (leaving-early _ _ _ _ (laid (k .before .before .before)) (rw (behind (k .before)) at (sym (k .starts-inside .ensures) ∙ not-true _ (c .if1 .taken))))
 
 land-requires : tie.Need-land-requires
 land-requires c κs =
@@ -60,16 +58,16 @@ enum-known-again : tie.Need-enum-known-again
 enum-known-again c = search needs
 
 returns-2 : tie.Need-returns-2
-returns-2 c ds fs =
+returns-2 c =
     let e = c .before .before .before in
     let k = e .before in
     lands-as
-    (leaving-laid (cursorOf _ ds fs) _ _ _ (laid (k .before .before .before)) (rw (behind (k .before)) at (sym (k .starts-inside .ensures) ∙ not-false _ (e .if1 .left))))
+    (leaving-laid _ _ _ _ (laid (k .before .before .before)) (rw (behind (k .before)) at (sym (k .starts-inside .ensures) ∙ not-false _ (e .if1 .left))))
     (rw (behind (k .before)) at (c .land .ensures))
 
 returns-3 : tie.Need-returns-3
-returns-3 c ds fs =
-    none-lands _ _ (leaving-refused (cursorOf _ ds fs) _ _ _ (laid-refused _ (sym (c .before .before .before .lay-out .ensures) ∙ c .before .again .given .1)))
+returns-3 c =
+    none-lands _ _ (leaving-refused _ _ _ _ (laid-refused _ (sym (c .before .before .before .lay-out .ensures) ∙ c .before .again .given .1)))
 
 pub leave-spec : {M : Type 1} → statement M
 leave-spec =

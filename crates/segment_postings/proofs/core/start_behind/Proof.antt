@@ -1,4 +1,4 @@
--- `segment_postings::core::start_behind` meets its contract.
+-- `segment_postings::core::start_behind` meets its contract, number by number.
 -- Assumes nothing.
 use borrow.Author.Needs.{needs}
 use Rattle.segment_postings.proofs.core.start_behind.Statement.{statement}

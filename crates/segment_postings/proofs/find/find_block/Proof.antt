@@ -18,7 +18,7 @@ use Rattle.format.specs.declared.Layout.{Layout}
 use Rattle.format.specs.Basics.{Outcome}
 use Rattle.format.specs.SkipEntry.{entrySize, readEntry, entryFits}
 use Rattle.format.specs.Layout.{fullBlocks, skipBytes}
-use Rattle.skip.proofs.Entry.{size-most}
+use Rattle.format.proofs.SkipEntry.{size-most}
 use Rattle.segment_postings.specs.declared.find.Found.{Found}
 use Rattle.segment_postings.specs.declared.find.Start.{Start}
 use Rattle.segment_postings.specs.Landing.{findBlock}

@@ -12,7 +12,7 @@ use Rattle.format.specs.Basics.{ok, ask}
 use Rattle.format.specs.Refusal.{skipLengthWrong}
 use Rattle.format.specs.Layout.{fullBlocks, sized}
 use Rattle.format.proofs.Opened.{sized-is}
-use Rattle.skip.proofs.Entry.{size-most}
+use Rattle.format.proofs.SkipEntry.{size-most}
 use Rattle.segment_postings.specs.Private.{laid}
 use Rattle.segment_postings.proofs.layout.lay_out_entries.Statement.{statement}
 use Rattle.segment_postings.proofs.layout.lay_out_entries.Tie as tie

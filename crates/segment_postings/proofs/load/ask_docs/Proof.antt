@@ -15,6 +15,7 @@ use borrow.Author.Tests.{not-true, not-false}
 use Rattle.format.specs.Basics.{choose, lastOf}
 use Rattle.compression.specs.declared.values.Restored.the-variants.{Rising, NotRising}
 use Rattle.compression.specs.Restored.{idsBehind, inOrder, risen, DocsRestored}
+use Rattle.compression.proofs.Differences.{restored-answers, restored-ids}
 use Rattle.segment_postings.specs.declared.load.Taken.{Taken}
 use Rattle.segment_postings.specs.Taken.{endsOn, outcome, DocsAsked}
 use Rattle.segment_postings.proofs.load.BlockQuestions.{docs-broken, docs-fallen, docs-end-wrong, docs-right}
@@ -90,7 +91,7 @@ returns-2 : tie.Need-returns-2
 returns-2 c =
     let back = c .before .before in
     fallen _ _ _ _ (not-false _ (back .before .before .if1 .left))
-    (not-rising _ _ (sym (c .enum-told .given .1) ∙ back .restore-docs .ensures (back .before .before .before .before .pre) .answered))
+    (not-rising _ _ (sym (c .enum-told .given .1) ∙ restored-answers (back .restore-docs .ensures) (back .before .before .before .before .pre)))
 
 -- the ids rise
 module _ (c : tie.After-known-told) where
@@ -100,13 +101,13 @@ module _ (c : tie.After-known-told) where
   there : start .args .taken .«docs_there» ≡ true
   there = not-false _ (c .before .before .before .before .before .if1 .left)
 
-  restored : DocsRestored (start .args .least) (start .args .taken .n) (now (start .args .docs)) (c .before .before .before .restore-docs .last .0)
-      (c .before .before .before .restore-docs .result)
-  restored = c .before .before .before .restore-docs .ensures (start .pre)
+  restored : DocsRestored (start .args .least) (start .args .taken .n) (start .args .taken .«docs_nonzero») (now (start .args .docs))
+      (c .before .before .before .restore-docs .last .0) (c .before .before .before .restore-docs .result)
+  restored = c .before .before .before .restore-docs .ensures
 
   rises : let vs = take (start .args .taken .n) (now (start .args .docs)) in
       (inOrder (start .args .least) vs ≡ true) × (c .before .last .given .0 .0 ≡ lastOf 0 (idsBehind (start .args .least) vs))
-  rises = is-rising _ _ (sym (c .before .last .given .1) ∙ restored .answered)
+  rises = is-rising _ _ (sym (c .before .last .given .1) ∙ restored-answers restored (start .pre))
 
 returns-3 : tie.Need-returns-3
 returns-3 c =
@@ -116,7 +117,7 @@ returns-3 c =
 returns-4 : tie.Need-returns-4
 returns-4 c =
     let told = c .before in
-    let left = restored told .left (rises told .0) in
+    let left = restored-ids (restored told) (start told .pre) (rises told .0) in
     ⊎-elim
     (λ w. ended-right _ _ _ _ (there told) (rises told .0) left (rises told .1) (w .0 .taken) (not-false _ (w .2 .left)))
     (λ w. tail-right _ _ _ _ (there told) (rises told .0) left (w .left))

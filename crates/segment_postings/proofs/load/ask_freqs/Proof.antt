@@ -23,7 +23,6 @@ has-zero-requires c κs = search needs
 returns-2 : tie.Need-returns-2
 unfolding outcome
 returns-2 c =
-    let start = c .before .before .before .before .before .before .before in
     freqs-wrong _ _ (not-false _ (c .before .before .before .before .before .if1 .left)) (sym (c .before .has-zero .ensures) ∙ c .if3 .taken)
 
 -- none is 0: it was tested, or is known

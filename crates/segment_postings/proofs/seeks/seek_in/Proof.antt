@@ -1,14 +1,14 @@
 -- `segment_postings::seeks::seek_in` meets its contract: its tests are the definition's, in turn.
 -- Assumes nothing.
-use mathlib.Core.Path.{_≡_, refl, sym, _∙_}
+use mathlib.Core.Path.{_≡_, sym, _∙_}
 use mathlib.Core.Bool.{true, false}
 use Prim.Native.Nat.{_+_, _*_}
 use native.Mathlib.Omega.{arith}
 use borrow.Author.Needs.{needs}
 use borrow.Author.Tests.{not-true, not-false}
 use lib.Dec.{eqb}
+use lib.ListN.{length}
 use Rattle.segment_postings.specs.Cursor.{inBounds}
-use Rattle.segment_postings.specs.Calls.{cursorOf}
 use Rattle.segment_postings.proofs.core.Question16.{bounded}
 use Rattle.segment_postings.proofs.Laws.LandingParts.{reaches-as, none-reached, held-reached}
 use Rattle.segment_postings.proofs.seeks.SeekCases.{seeking-broken, seeking-ended, seeking-too-large, seeking-stays, seeking-within, seeking-behind}
@@ -20,11 +20,11 @@ in-bounds-requires c κs = search needs
 
 returns : tie.Need-returns
 returns c =
-    none-reached _ _ (seeking-broken _ _ _ _ (sym (c .before .in-bounds .ensures _ _ _ refl) ∙ not-true _ (c .if1 .taken)))
+    none-reached _ _ (seeking-broken _ _ _ _ (sym (c .before .in-bounds .ensures) ∙ not-true _ (c .if1 .taken)))
 
 in-bounds : (c : tie.Else1) → let s = c .before .before .before in
-    inBounds (s .args .term) (s .args .image .now) (cursorOf (s .args .held) (s .args .docs .now) (s .args .freqs .now)) ≡ true
-in-bounds c = sym (c .before .in-bounds .ensures _ _ _ refl) ∙ not-false _ (c .if1 .left)
+    inBounds (s .args .term) (length (s .args .image .now)) (s .args .held) ≡ true
+in-bounds c = sym (c .before .in-bounds .ensures) ∙ not-false _ (c .if1 .left)
 
 at-end-requires : tie.Need-at-end-requires
 at-end-requires c κs = bounded _ _ _ (in-bounds c) .place-below

@@ -10,7 +10,7 @@ value-at-requires c κs = search needs
 
 returns : tie.Need-returns
 unfolding freqAt
-returns c = let s = c .before .before .before .before in c .value-at .ensures (s .args .cursor .docs) (s .args .cursor .freqs)
+returns c = c .value-at .ensures
 
 pub term-freq-spec : {M : Type 1} → statement M
 term-freq-spec = tie.close (tie.spec value-at-requires returns)
