@@ -168,7 +168,12 @@ pub(crate) fn first_start(layout: Layout) -> Start
 }
 
 // Goes to a list's first document: questions 1 to 4, then entry 0, if any, and block 0.
-pub(crate) fn begin(image: &[u8], term: Term, docs: &mut [u32; 128], freqs: &mut [u32; 128]) -> Reached
+pub(crate) fn begin(
+    image: &[u8],
+    term: Term,
+    docs: &mut [u32; 128],
+    freqs: &mut [u32; 128],
+) -> Reached
     ensures { λ r. ⌜ Lands (opening (now (image .entry)) term) (now (docs .exit)) (now (freqs .exit)) r ⌝ }
 {
     match lay_out(image, term) {

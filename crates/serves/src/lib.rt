@@ -308,7 +308,7 @@ fn sum_up(refusal: u8, done: usize, next: usize) -> u64
     next as u64
 }
 
-// Marks targets, as many as there are places from `from` to 15; the next place, or 0 where there are more.
+// Marks targets, as many as there are places from `from` to 15; the next place, or 0 where there are more or `from` lies above 15.
 pub fn mark_all(targets: &mut [Target], from: usize) -> u64
     ensures { λ r. ⌜ LeavesMarked (marked (now (targets .entry)) from) r (now (targets .exit)) ⌝ }
 {

@@ -10,7 +10,7 @@
 --     refused-at           where there is a refusal, it is what the turn of the next element gave
 --     in-two               a walk over two lists in a row, where all of the first are served: the first walk, then the second from
 --                          the state that it left
---     kept                 what every turn that serves keeps of the state holds of the state that is left
+--     state-keeps          what every turn that serves keeps of the state holds of the state that is left
 --     unopened, begun      where opening is refused nothing changes; else it is the walk
 -- Assumes nothing.
 use mathlib.Core.Path.{_≡_, refl, ap, sym, _∙_}
@@ -102,10 +102,10 @@ module _ {X Z : Type 0} (f : X → Z → Turn X Z) where
       (λ e h. serving f x (xs ++ ys) z e ∙ ap (after (f x z .1 .0)) (in-two xs ys (f x z .1 .1) h))
       (λ j e h. absurd (no-zero (f x z .0) j e h))
 
-  pub kept :
+  pub state-keeps :
       (P : Z → Type 0) → ((x : X) (z : Z) → f x z .0 ≡ 0 → P z → P (f x z .1 .1)) →
       (xs : List X) (z : Z) → P z → P (serves f xs z .1 .1 .1)
-  kept P keeps = by-turns (λ xs z w. P z → P (w .1 .1 .1)) (λ z p. p) (λ x xs z w e h p. h (keeps x z e p)) (λ x xs z j e p. p)
+  state-keeps P keeps = by-turns (λ xs z w. P z → P (w .1 .1 .1)) (λ z p. p) (λ x xs z w e h p. h (keeps x z e p)) (λ x xs z j e p. p)
 
   pub unopened : (b : ℕ × Z) (xs : List X) (j : ℕ) → b .0 ≡ suc j → begins f b xs ≡ (b .0, (0, (xs, b .1)))
   unopened b xs j e = simp e
