@@ -2,7 +2,7 @@
 
 use std::collections::BTreeSet;
 
-use crate::reader::{Call, ANSWER};
+use crate::reader::{Call, ANSWER_NUMBERS};
 use crate::reference::END;
 
 /// A position over the documents and the blocks visited. Of the cursor it knows nothing.
@@ -13,7 +13,7 @@ struct Book<'a> {
 }
 
 impl Book<'_> {
-    fn answer(&mut self) -> [u64; ANSWER] {
+    fn answer(&mut self) -> [u64; ANSWER_NUMBERS] {
         let block = self.position / 128;
         self.visited.insert(block);
         let (doc, freq) = self.documents.get(self.position).copied().unwrap_or((END, 0));
@@ -22,7 +22,7 @@ impl Book<'_> {
         [0, doc.into(), freq.into(), self.visited.len() as u64, entries]
     }
 
-    fn call(&mut self, call: Call) -> [u64; ANSWER] {
+    fn call(&mut self, call: Call) -> [u64; ANSWER_NUMBERS] {
         let end = self.documents.len();
         match call {
             Call::Step => self.position = end.min(self.position + 1),
@@ -42,7 +42,7 @@ impl Book<'_> {
 }
 
 /// The opening's answer and one for each call, over documents with their frequencies.
-pub fn book(documents: &[(u32, u32)], calls: &[Call]) -> Vec<[u64; ANSWER]> {
+pub fn book(documents: &[(u32, u32)], calls: &[Call]) -> Vec<[u64; ANSWER_NUMBERS]> {
     let mut book = Book { documents, position: 0, visited: BTreeSet::new() };
     let mut answers = vec![book.answer()];
     answers.extend(calls.iter().map(|call| book.call(*call)));

@@ -3,7 +3,7 @@
 
 use differential::lists::Rng;
 use differential::oracle::{Opener, TERMINATED};
-use differential::reader::{Caller, Image, Reader, ANSWER};
+use differential::reader::{Caller, Image, Reader, ANSWER_NUMBERS};
 use differential::reference::{sound, Reference};
 
 use crate::sound::{calls_into, check_calls, read_into, unanswered};
@@ -75,12 +75,14 @@ fn calls(caller: &dyn Caller, image: &Image, rng: &mut Rng, tally: &mut Tally) -
     for requested in [rng.below(2) as u8, [1, 2, 3, 255][rng.below(4) as usize]] {
         let calls = some_calls(rng, image);
         tally.damaged_calls += calls.len() as u64;
-        let length = ANSWER * (1 + calls.len()) + rng.below(3) as usize;
+        let length = ANSWER_NUMBERS * (1 + calls.len()) + rng.below(3) as usize;
         let (found, answers) = calls_into(caller, image, requested, &calls, length);
         let (wanted, right) = calls_into(&Reference, image, requested, &calls, length);
         let what = || format!("{}, requested {requested}, calls {calls:X?}", caller.name());
         equal(|| format!("{}, how many answers", what()), found, wanted)?;
-        for (at, (answer, right)) in answers.chunks(ANSWER).zip(right.chunks(ANSWER)).enumerate() {
+        for (at, (answer, right)) in
+            answers.chunks(ANSWER_NUMBERS).zip(right.chunks(ANSWER_NUMBERS)).enumerate()
+        {
             equal(|| format!("{}, answer {at}", what()), answer, right)?;
         }
     }

@@ -8,7 +8,7 @@ pub use crate::docset::TERMINATED;
 use crate::lists::List;
 use crate::postings::serializer::{FieldSerializer, PostingsSerializer};
 use crate::postings::{BlockSegmentPostings, Postings, SegmentPostings};
-use crate::reader::{Call, Image, ANSWER};
+use crate::reader::{Call, Image, ANSWER_NUMBERS};
 use crate::schema::IndexRecordOption;
 
 fn option(mode: u8) -> IndexRecordOption {
@@ -118,7 +118,7 @@ impl Opener {
     /// Calls and answers as `exports` has them, of which the Rust knows document and frequency.
     pub fn run_calls(&self, requested: u8, calls: &[u64], answers: &mut [u64]) {
         let mut cursor = self.open(requested);
-        let mut answers = answers.chunks_exact_mut(ANSWER);
+        let mut answers = answers.chunks_exact_mut(ANSWER_NUMBERS);
         let mut put = |(doc, freq): (u32, u32)| {
             answers.next().unwrap().copy_from_slice(&[0, doc.into(), freq.into(), 0, 0]);
         };

@@ -36,7 +36,7 @@ pub trait Reader: Sync {
 }
 
 /// Numbers in an answer: the refusal's or 0, document, frequency, blocks unpacked, entries read.
-pub const ANSWER: usize = 5;
+pub const ANSWER_NUMBERS: usize = 5;
 
 pub trait Caller: Sync {
     fn name(&self) -> &'static str;

@@ -1,7 +1,7 @@
 //! Document 01 read once more: what stands in an image, and which question it fails first. Plain
 //! code of its own, in the order of the questions; it knows neither the Rust nor the library.
 
-use crate::reader::{Answer, Call, Caller, Image, Reader, ANSWER};
+use crate::reader::{Answer, Call, Caller, Image, Reader, ANSWER_NUMBERS};
 
 pub const END: u32 = 2147483647;
 
@@ -330,7 +330,7 @@ fn total(image: &Image, target: u32) -> Asked<u64> {
     Ok(sum)
 }
 
-fn answer(asked: Asked<()>, cursor: &Cursor) -> [u64; ANSWER] {
+fn answer(asked: Asked<()>, cursor: &Cursor) -> [u64; ANSWER_NUMBERS] {
     match asked {
         Ok(()) => [0, cursor.doc().into(), cursor.freq().into(), cursor.unpacked, cursor.entries],
         Err(number) => [number.into(), 0, 0, 0, 0],
@@ -338,7 +338,7 @@ fn answer(asked: Asked<()>, cursor: &Cursor) -> [u64; ANSWER] {
 }
 
 /// The answers to opening and to each call, on any image.
-fn answers(image: &Image, requested: u8, calls: &[Call]) -> Vec<[u64; ANSWER]> {
+fn answers(image: &Image, requested: u8, calls: &[Call]) -> Vec<[u64; ANSWER_NUMBERS]> {
     let mut cursor = match Cursor::open(image, requested) {
         Ok(cursor) => cursor,
         Err(number) => return vec![[number.into(), 0, 0, 0, 0]],
@@ -396,11 +396,11 @@ impl Caller for Reference {
     fn run_calls(&self, image: &Image, requested: u8, calls: &[u64], into: &mut [u64]) -> u64 {
         let known: Option<Vec<Call>> = calls.iter().map(|call| Call::from_number(*call)).collect();
         let Some(known) = known else { return 0 };
-        if into.len() < ANSWER * (1 + calls.len()) {
+        if into.len() < ANSWER_NUMBERS * (1 + calls.len()) {
             return 0;
         }
         let answers = answers(image, requested, &known);
-        into[..ANSWER * answers.len()].copy_from_slice(answers.as_flattened());
+        into[..ANSWER_NUMBERS * answers.len()].copy_from_slice(answers.as_flattened());
         answers.len() as u64
     }
 }

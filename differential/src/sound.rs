@@ -4,7 +4,7 @@ use differential::book::book;
 use differential::images::{odd_image, Style};
 use differential::lists::{List, Rng};
 use differential::oracle::{self, Opener, TERMINATED};
-use differential::reader::{Call, Caller, Image, Reader, ANSWER};
+use differential::reader::{Call, Caller, Image, Reader, ANSWER_NUMBERS};
 
 use crate::{equal, Bytes, Outcome, Tally, CALLERS, READERS};
 
@@ -219,12 +219,12 @@ fn compare_calls(
     let calls: Vec<Call> = numbers.iter().map(|call| Call::from_number(*call).unwrap()).collect();
     let wanted = book(documents, &calls);
     rust_calls(opener, requested, &calls, &wanted)?;
-    let length = ANSWER * wanted.len();
+    let length = ANSWER_NUMBERS * wanted.len();
     for caller in CALLERS {
         let name = caller.name();
         let (written, found) = calls_into(*caller, image, requested, numbers, length + 2);
         equal(|| format!("{name}, how many answers"), written, wanted.len() as u64)?;
-        for (at, answer) in found[..length].chunks(ANSWER).enumerate() {
+        for (at, answer) in found[..length].chunks(ANSWER_NUMBERS).enumerate() {
             equal(|| format!("{name}, answer {at}"), answer, &wanted[at][..])?;
         }
         let behind = UNANSWERED..UNANSWERED + 2;
@@ -238,11 +238,11 @@ fn compare_calls(
 pub fn unanswered(caller: &dyn Caller, image: &Image) -> Outcome {
     let (step, seek) = (0, 3 << 32 | 5);
     for (calls, length) in [
-        (&[][..], ANSWER - 1),
-        (&[step, seek][..], 3 * ANSWER - 1),
+        (&[][..], ANSWER_NUMBERS - 1),
+        (&[step, seek][..], 3 * ANSWER_NUMBERS - 1),
         (&[step, seek][..], 0),
-        (&[4 << 32][..], 2 * ANSWER),
-        (&[step, u64::MAX, seek][..], 9 * ANSWER),
+        (&[4 << 32][..], 2 * ANSWER_NUMBERS),
+        (&[step, u64::MAX, seek][..], 9 * ANSWER_NUMBERS),
     ] {
         let what = || format!("{}, {calls:X?} into {length}", caller.name());
         let (written, found) = calls_into(caller, image, 1, calls, length);
@@ -253,7 +253,12 @@ pub fn unanswered(caller: &dyn Caller, image: &Image) -> Outcome {
 }
 
 /// A target above the limit never gets to the Rust, and changes nothing.
-fn rust_calls(opener: &Opener, requested: u8, calls: &[Call], wanted: &[[u64; ANSWER]]) -> Outcome {
+fn rust_calls(
+    opener: &Opener,
+    requested: u8,
+    calls: &[Call],
+    wanted: &[[u64; ANSWER_NUMBERS]],
+) -> Outcome {
     let above = |call: &Call| matches!(call, Call::Seek(target) if *target > TERMINATED);
     let taken: Vec<Call> = calls.iter().copied().filter(|call| !above(call)).collect();
     let shown = opener.calls(requested, &taken);

@@ -12,7 +12,7 @@ use differential::oracle::{self, Opener};
 use differential::reader::Caller;
 #[cfg(feature = "linked-reading")]
 use differential::reader::Reader;
-use differential::reader::{Image, ANSWER};
+use differential::reader::{Image, ANSWER_NUMBERS};
 
 const SEED: u64 = 1;
 const DOCUMENTS: usize = 4_000_000;
@@ -21,10 +21,10 @@ const RUNS: usize = 15;
 
 fn main() {
     let mut rng = Rng::new(SEED);
-    let even = even(&mut rng);
-    measure("one range of gaps and one of frequencies", &even, &mut rng);
-    let mixed = mixed(&mut rng);
-    measure("ranges drawn anew for each block", &mixed, &mut rng);
+    let one_range = one_range(&mut rng);
+    measure("one range of gaps and one of frequencies", &one_range, &mut rng);
+    let drawn_anew = drawn_anew(&mut rng);
+    measure("ranges drawn anew for each block", &drawn_anew, &mut rng);
 }
 
 fn measure(what: &str, list: &List, rng: &mut Rng) {
@@ -44,7 +44,7 @@ fn measure(what: &str, list: &List, rng: &mut Rng) {
 }
 
 /// Gaps of 1 to 19 and frequencies of 1 to 10, recorded.
-fn even(rng: &mut Rng) -> List {
+fn one_range(rng: &mut Rng) -> List {
     let mut id = 0;
     let mut document = || {
         id += 1 + rng.below(19) as u32;
@@ -55,7 +55,7 @@ fn even(rng: &mut Rng) -> List {
 }
 
 /// Each block of 128 has its own ranges: gaps and frequencies of 1 to a power of two, from 1 to 512.
-fn mixed(rng: &mut Rng) -> List {
+fn drawn_anew(rng: &mut Rng) -> List {
     let mut id = 0;
     let [mut gaps, mut counts] = [1; 2];
     let mut document = |i: usize| {
@@ -122,7 +122,7 @@ fn read(list: &List, image: &Image, opener: &Opener) {
     assert!((&docs, &freqs) == (&list.ids, &list.freqs), "the documents differ");
 }
 
-/// Both sides take the same calls and fill the same answers, five numbers each, of which the Rust
+/// Both sides take the same calls and fill the same answers, ANSWER_NUMBERS each, of which the Rust
 /// knows document and frequency.
 #[cfg_attr(not(feature = "linked-calls"), allow(unused_variables))]
 fn seek(image: &Image, opener: &Opener, targets: &[u32]) {
@@ -130,14 +130,14 @@ fn seek(image: &Image, opener: &Opener, targets: &[u32]) {
         targets.iter().map(|target| kind << 32 | u64::from(*target)).collect()
     };
     let by_value = seeks(1);
-    let mut answers = vec![0; ANSWER * (1 + SEEKS)];
+    let mut answers = vec![0; ANSWER_NUMBERS * (1 + SEEKS)];
     let mut rust = || opener.run_calls(1, &by_value, &mut answers);
     #[cfg(not(feature = "linked-calls"))]
     report("seek", SEEKS, &mut [("Rust", &mut rust)]);
     #[cfg(feature = "linked-calls")]
     {
         let lent = seeks(3);
-        let [mut found, mut found_lent] = [(); 2].map(|_| vec![0; ANSWER * (1 + SEEKS)]);
+        let [mut found, mut found_lent] = [(); 2].map(|_| vec![0; ANSWER_NUMBERS * (1 + SEEKS)]);
         let mut library = || {
             Library.run_calls(image, 1, &by_value, &mut found);
         };
@@ -151,7 +151,8 @@ fn seek(image: &Image, opener: &Opener, targets: &[u32]) {
         ];
         report("seek", SEEKS, sides);
         for found in [&found, &found_lent] {
-            for (found, wanted) in found.chunks(ANSWER).zip(answers.chunks(ANSWER)) {
+            for (found, wanted) in found.chunks(ANSWER_NUMBERS).zip(answers.chunks(ANSWER_NUMBERS))
+            {
                 assert!(found[..3] == wanted[..3], "the answers differ");
             }
         }
