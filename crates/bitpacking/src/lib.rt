@@ -3,11 +3,11 @@
 use common::u32_from_le_bytes;
 use common::u32_to_le_bytes;
 ghost use mathlib.Core.Path.{_≡_};
-ghost use Prim.Native.Nat.{ℕ, _+_, _-_, _*_, _%_, _^_, _≤_, _<_, max};
+ghost use Prim.Native.Nat.{ℕ, _+_, _-_, _*_, _%_, _^_, _≤_, _<_};
 ghost use mathlib.Core.List.{map};
 ghost use lib.ListN.{length};
 ghost use Rattle.format.specs.Basics.{fourBytes};
-ghost use Rattle.format.specs.Bitpacking.{packedAt, largest, width};
+ghost use Rattle.format.specs.Bitpacking.{packedAt, bitsF, width};
 ghost use Rattle.format.specs.Bitpacking as packing;
 ghost use Rattle.bitpacking.specs.Packed.{roomFor, withMore, Unpacked, Packed, BlockThere, RowThere, LeftAt, RowIs, moreAt, wordsFrom, bitsTaken, Fills, WordIs, WordsAre, LanesAt, RowPacks, RowAdded, wordsTaken, filled};
 
@@ -331,27 +331,21 @@ pub fn pack(values: &[u32; 128], width: u8, area: &mut [u8]) -> bool
     true
 }
 
-// The larger of two numbers.
-fn larger(a: u32, b: u32) -> u32
-    ensures { λ r. ⌜ r ≡ max a b ⌝ }
+// The bits that any of some numbers has, as a number: it has as many bits as the largest of them. `|` of four numbers is one instruction,
+// and the larger of unsigned ones takes several.
+fn bits_of_any(values: &[u32]) -> u32
+    ensures { λ r. ⌜ bitsF 32 r ≡ width (now (values .entry)) ⌝ }
 {
-    if a < b { b } else { a }
-}
-
-// The largest of some numbers, 0 where there is none.
-fn largest_of(values: &[u32]) -> u32
-    ensures { λ r. ⌜ r ≡ largest (now (values .entry)) ⌝ }
-{
-    let mut most = 0u32;
+    let mut any = 0u32;
     for i in 0..values.len() {
-        most = larger(most, values[i]);
+        any = any | values[i];
     }
-    most
+    any
 }
 
 // The width of 128 values: the bits of the largest, 0 if all are 0.
 pub fn num_bits(values: &[u32; 128]) -> u8
     ensures { λ r. ⌜ r ≡ width (now (values .entry)) ⌝ }
 {
-    (32 - u32::leading_zeros(largest_of(values))) as u8
+    (32 - u32::leading_zeros(bits_of_any(values))) as u8
 }

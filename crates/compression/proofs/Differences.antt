@@ -126,8 +126,8 @@ differ-plain zero (v ∷ vs) = record { question = first-question v vs; same = f
 differ-plain (suc d) (v ∷ vs) =
     let before : suc d - 1 ≡ d = omega arith in
     record {
-      question = rw add-one at (plain-question d (v ∷ vs)) ∙ ap (λ (e : ℕ). rising (suc d) (idsFrom 0 e (v ∷ vs))) (sym before);
-      same = λ _. rw add-one at (plain-same d (v ∷ vs)) ∙ ap (λ (e : ℕ). idsFrom 0 e (v ∷ vs)) (sym before);
+      question = rw (add-one d) at (plain-question d (v ∷ vs)) ∙ ap (λ (e : ℕ). rising (suc d) (idsFrom 0 e (v ∷ vs))) (sym before);
+      same = λ _. rw (add-one d) at (plain-same d (v ∷ vs)) ∙ ap (λ (e : ℕ). idsFrom 0 e (v ∷ vs)) (sym before);
     }
 
 -- ---- question 6 by the last id

@@ -29,6 +29,11 @@ pub record Replacing {S : Type 0} (f : S → List ℕ → List ℕ) (n : ℕ) (s
 pub replacing-none : {S : Type 0} (f : S → List ℕ → List ℕ) (n : ℕ) (s : S) (start : ℕ) (l : List ℕ) → start ≤ n → Replacing f n s start l s start l
 replacing-none f n s start l h = record { most = h; long = refl; leaves = refl }
 
+-- some turns, and then some more
+pub replacing-on : {S : Type 0} {f : S → List ℕ → List ℕ} {n : ℕ} {s₀ s₁ s : S} {i₀ i₁ i : ℕ} {l₀ l₁ l : List ℕ}
+    → Replacing f n s₀ i₀ l₀ s₁ i₁ l₁ → Replacing f n s₁ i₁ l₁ s i l → Replacing f n s₀ i₀ l₀ s i l
+replacing-on r q = record { most = q .most; long = q .long ∙ r .long; leaves = r .leaves ∙ q .leaves }
+
 -- one value more
 module _ {S : Type 0} (f : S → List ℕ → List ℕ) (out : S → ℕ → ℕ) (next : S → ℕ → S)
     (turns : (s : S) (v : ℕ) (vs : List ℕ) → f s (v ∷ vs) ≡ out s v ∷ f (next s v) vs) where

@@ -1,25 +1,23 @@
--- `bitpacking::num_bits` meets its contract: the bits of the largest value are those below its leading zeros.
+-- `bitpacking::num_bits` meets its contract: the bits of the largest value are those below the leading zeros of all values together.
 -- Assumes nothing.
-use mathlib.Core.Path.{ap, _∙_}
-use Prim.Native.Nat.{ℕ}
+use mathlib.Core.Path.{_∙_}
 use native.Mathlib.Omega.{arith}
-use Rattle.format.specs.Bitpacking.{bitsF}
-use Rattle.bitpacking.proofs.Width.{bits-and-zeros, bits-are, width-is}
+use Rattle.bitpacking.proofs.Width.{bits-and-zeros, bits-are}
 use borrow.Author.Needs.{needs}
 use Rattle.bitpacking.proofs.num_bits.Statement.{statement}
 use Rattle.bitpacking.proofs.num_bits.Tie as tie
 
-largest-of-requires : tie.Need-largest-of-requires
-largest-of-requires c κs = search needs
+bits-of-any-requires : tie.Need-bits-of-any-requires
+bits-of-any-requires c κs = search needs
 
 sub-result : tie.Need-sub-result
-sub-result c = omega (arith, bits-and-zeros 32 (c .largest-of .result))
+sub-result c = omega (arith, bits-and-zeros 32 (c .bits-of-any .result))
 
 cast-result : tie.Need-cast-result
 cast-result c = search needs
 
 returns : tie.Need-returns
-returns c = bits-are 32 (c .largest-of .result) ∙ ap (λ (n : ℕ). bitsF 32 n) (c .largest-of .ensures) ∙ width-is (c .before .before .args .values .now)
+returns c = bits-are 32 (c .bits-of-any .result) ∙ c .bits-of-any .ensures
 
 pub num-bits-spec : {M : Type 1} → statement M
-num-bits-spec = tie.close (tie.spec largest-of-requires sub-result cast-result returns)
+num-bits-spec = tie.close (tie.spec bits-of-any-requires sub-result cast-result returns)
