@@ -2,13 +2,14 @@
 // its loops have no branch inside: they become vector code.
 
 use crate::Progress;
+use crate::block::last_of;
 use format::IndexRecordOption;
 use format::TERMINATED;
 use skip::has_freq;
 use skip::known_mode;
 use skip::record_option;
 ghost use mathlib.Core.Path.{_≡_};
-ghost use mathlib.Core.Bool.{not, _||_ as or};
+ghost use mathlib.Core.Bool.{not, _&&_ as and, _||_ as or};
 ghost use mathlib.Core.List.{List};
 ghost use Prim.Native.Nat.{ℕ, _≤_, _<_};
 ghost use lib.ListN.{length, take};
@@ -38,42 +39,38 @@ fn climbs(docs: &[u32]) -> bool
     above
 }
 
-// Whether ids rise strictly from `least` on, below TERMINATED: where each lies above the one before it, the first and the last decide.
-fn rises(docs: &[u32], least: u64) -> bool
-    ensures { λ r. ⌜ r ≡ rising least (now (docs .entry)) ⌝ }
+// .. and each frequency is at least 1: one loop over both is faster than two.
+fn climbs_counted(docs: &[u32], freqs: &[u32]) -> bool
+    requires { ⌜ (0 < length (now docs)) × (length (now docs) ≡ length (now freqs)) ⌝ }
+    ensures { λ r. ⌜ r ≡ and (climbing (now (docs .entry))) (countable (now (freqs .entry))) ⌝ }
 {
-    let n = docs.len();
-    if n == 0 {
+    let mut holds = freqs[0] != 0;
+    for i in 1..docs.len() {
+        holds = holds & (docs[i - 1] < docs[i]) & (freqs[i] != 0);
+    }
+    holds
+}
+
+// Whether waiting ids rise strictly from `least` on, below TERMINATED, and their frequencies, where these are kept, are at least 1. Where
+// each id lies above the one before it, the first and the last decide.
+fn documents_wait(option: IndexRecordOption, docs: &[u32], freqs: &[u32], least: u64) -> bool
+    requires { ⌜ length (now docs) ≡ length (now freqs) ⌝ }
+    ensures { λ r. ⌜ r ≡ and (rising least (now (docs .entry))) (or (not (hasFreq option)) (countable (now (freqs .entry)))) ⌝ }
+{
+    if docs.len() == 0 {
         return true;
     }
     if (docs[0] as u64) < least {
         return false;
     }
-    if TERMINATED <= docs[n - 1] {
+    if TERMINATED <= last_of(docs) {
         return false;
     }
-    climbs(docs)
-}
-
-// Whether all frequencies are at least 1.
-fn counts(freqs: &[u32]) -> bool
-    ensures { λ r. ⌜ r ≡ countable (now (freqs .entry)) ⌝ }
-{
-    let mut some = true;
-    for i in 0..freqs.len() {
-        some = some & (freqs[i] != 0);
+    if has_freq(option) {
+        climbs_counted(docs, freqs)
+    } else {
+        climbs(docs)
     }
-    some
-}
-
-// Whether waiting frequencies, where they are kept, are at least 1.
-fn freqs_wait(option: IndexRecordOption, freqs: &[u32]) -> bool
-    ensures { λ r. ⌜ r ≡ or (not (hasFreq option)) (countable (now (freqs .entry))) ⌝ }
-{
-    if !has_freq(option) {
-        return true;
-    }
-    counts(freqs)
 }
 
 // The least id that the first waiting document may have; 2 ^ 32 where the last block's last id is the largest number of 32 bits.
@@ -101,11 +98,9 @@ pub(crate) fn in_bounds(
     if 127 < waiting {
         return false;
     }
-    if !rises(front(docs, waiting), first_least(progress)) {
-        return false;
-    }
     let option = record_option(progress.mode, progress.recording);
-    if !freqs_wait(option, front(freqs, waiting)) {
+    let least = first_least(progress);
+    if !documents_wait(option, front(docs, waiting), front(freqs, waiting), least) {
         return false;
     }
     if TERMINATED < progress.taken {

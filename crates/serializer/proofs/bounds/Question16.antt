@@ -1,8 +1,8 @@
 -- Question 16, asked in turn; and what a yes says of a state: few documents wait, their ids rise, and the areas reach no further than
 -- their slices.
 -- Assumes nothing.
-use mathlib.Core.Path.{_≡_}
-use mathlib.Core.Bool.{true, false, not, _&&_ as and, _||_ as or, and-eq-true-iff}
+use mathlib.Core.Path.{_≡_, sym}
+use mathlib.Core.Bool.{Bool, true, false, not, _&&_ as and, _||_ as or, and-assoc, and-eq-true-iff}
 use Prim.Native.Nat.{ℕ, _≤_, _<_}
 use lib.Dec.{leb}
 use borrow.Author.Tests.{leb-true, le-leb, lt-leb}
@@ -15,26 +15,20 @@ use Rattle.serializer.specs.Writer.{boundsHold, optionOf, firstLeast, wa
 
 -- ---- in turn: the first no answers it
 
+-- what is asked of the waiting documents
+abbrev pub documentsAsked : PostingsSerializer → Bool
+documentsAsked s = and (rising (firstLeast s) (waitingDocs s)) (or (not (hasFreq (optionOf s))) (countable (waitingFreqs s)))
+
 module _ (s : PostingsSerializer) (n m : ℕ) where
   pub many-wait : 127 < s .waiting → boundsHold s n m ≡ false
   unfolding boundsHold
   many-wait many = rw (lt-leb _ _ many)
 
   module _ (few : s .waiting ≤ 127) where
-    pub docs-fall : rising (firstLeast s) (waitingDocs s) ≡ false → boundsHold s n m ≡ false
+    pub documents-asked : boundsHold s n m
+        ≡ and (documentsAsked s) (and (leb (s .taken) TERMINATED) (and (and (leb (s .«skips_at») n) (leb (s .«postings_at») m)) (knownMode (s .mode))))
     unfolding boundsHold
-    docs-fall fall = rw (le-leb _ _ few, fall)
-
-    module _ (rise : rising (firstLeast s) (waitingDocs s) ≡ true) where
-      pub freqs-lack : or (not (hasFreq (optionOf s))) (countable (waitingFreqs s)) ≡ false → boundsHold s n m ≡ false
-      unfolding boundsHold
-      freqs-lack lack = rw (le-leb _ _ few, rise, lack)
-
-      pub numbers-asked : or (not (hasFreq (optionOf s))) (countable (waitingFreqs s)) ≡ true
-          → boundsHold s n m
-          ≡ and (leb (s .taken) TERMINATED) (and (and (leb (s .«skips_at») n) (leb (s .«postings_at») m)) (knownMode (s .mode)))
-      unfolding boundsHold
-      numbers-asked count = rw (le-leb _ _ few, rise, count)
+    documents-asked = rw (le-leb _ _ few) (sym (and-assoc (rising (firstLeast s) (waitingDocs s)) _ _))
 
 -- ---- what a yes says
 

@@ -20,6 +20,11 @@ use Rattle.serializer.specs.Pieces.{climbing}
 
 -- ---- the first and the last
 
+pub counting-none : (fs : List ℕ) → length fs ≡ 0 → countable fs ≡ true
+unfolding countable
+counting-none [] e = refl
+counting-none (f ∷ fs) e = absurd (omega arith)
+
 pub rising-none : (least : ℕ) (ds : List ℕ) → length ds ≡ 0 → rising least ds ≡ true
 unfolding rising
 rising-none least [] e = refl
@@ -79,19 +84,38 @@ module _ (ds : List ℕ) (i : ℕ) (above : Bool) (some : 1 ≤ i) (inv : climbi
   pub climbing-end : i ≡ length ds → above ≡ climbing ds
   climbing-end e = sym (inv ∙ rw (climbing-last ds (i - 1) (omega arith), and-true))
 
--- ---- a walk over frequencies: `some` says whether those before place i count
+-- ---- a walk over ids and frequencies: `holds` says whether those before place i climb and count
 
 some-is : (n : ℕ) → leb 1 n ≡ not (eqb n 0)
 some-is zero = refl
 some-is (suc n) = rw (le-leb 1 (suc n) (omega arith), ne-eqb (suc n) 0 (λ e. omega arith))
 
-module _ (fs : List ℕ) (i : ℕ) (some : Bool) (inv : countable fs ≡ and some (countable (drop i fs))) where
-  pub counting-on : i < length fs → getD fs i 0 ≤ 4294967295
-      → countable fs ≡ and (and some (not (eqb (getD fs i 0) 0))) (countable (drop (i + 1) fs))
-  unfolding countable
-  counting-on h fits =
-      inv ∙ rw (drop-next fs i h, le-leb (getD fs i 0) 4294967295 fits, and-true, some-is, and-assoc some _ (countable (drop (i + 1) fs)))
+counting-next : (fs : List ℕ) (i : ℕ) → i < length fs → getD fs i 0 ≤ 4294967295
+    → countable (drop i fs) ≡ and (not (eqb (getD fs i 0) 0)) (countable (drop (i + 1) fs))
+unfolding countable
+counting-next fs i h fits = rw (drop-next fs i h, le-leb (getD fs i 0) 4294967295 fits, and-true, some-is)
 
-  pub counting-end : length fs ≤ i → some ≡ countable fs
-  unfolding countable
-  counting-end h = sym (inv ∙ rw (drop-of-length-le fs h, and-true))
+-- what is asked of the documents at a place goes to what was found before it
+to-the-front : (holds a b c k : Bool) → and holds (and (and a c) (and b k)) ≡ and (and (and holds a) b) (and c k)
+to-the-front false a b c k = refl
+to-the-front true false b c k = refl
+to-the-front true true false c k = and-false c
+to-the-front true true true c k = refl
+
+module _ (ds fs : List ℕ) where
+  abbrev pub left : ℕ → Bool
+  left i = and (climbing (drop (i - 1) ds)) (countable (drop i fs))
+
+  pub both-begin : 0 < length fs → getD fs 0 0 ≤ 4294967295 → and (climbing ds) (countable fs) ≡ and (not (eqb (getD fs 0 0) 0)) (left 1)
+  both-begin h fits = rw (counting-next fs 0 h fits) (to-the-front true true (not (eqb (getD fs 0 0) 0)) (climbing ds) (countable (drop 1 fs)))
+
+  module _ (i : ℕ) (holds : Bool) (some : 1 ≤ i) (inv : and (climbing ds) (countable fs) ≡ and holds (left i)) where
+    pub both-on : i < length ds → i < length fs → getD fs i 0 ≤ 4294967295
+        → and (climbing ds) (countable fs) ≡ and (and (and holds (ltb (getD ds (i - 1) 0) (getD ds i 0))) (not (eqb (getD fs i 0) 0))) (left (i + 1))
+    both-on h k fits =
+        let here : i - 1 + 1 ≡ i = omega arith in
+        let next : i + 1 - 1 ≡ i = omega arith in
+        inv ∙ rw (climbing-next ds (i - 1) (omega arith), here, counting-next fs i k fits, next) (to-the-front holds _ (not (eqb (getD fs i 0) 0)) (climbing (drop i ds)) (countable (drop (i + 1) fs)))
+
+    pub both-end : i ≡ length ds → length ds ≡ length fs → holds ≡ and (climbing ds) (countable fs)
+    both-end e same = sym (inv ∙ rw (climbing-last ds (i - 1) (omega arith), counting-none (drop i fs) (rw (drop-of-length-le fs {i = i} (omega arith))), and-true))
