@@ -51,8 +51,9 @@ int main(void) {
     must(vilthorwy_run_calls(1, 1, 3, image, size, lent, 2, lent_answers, PLACES) == n, "as many on a lent cursor");
     must(memcmp(answers, lent_answers, sizeof answers) == 0, "the answers are the same");
     for (const uint64_t *a = answers; a < answers + PLACES; a += VILTHORWY_ANSWER_NUMBERS) {
-        must(a[0] == 0, "the call isn't refused");
-        printf("at %" PRIu64 ", frequency %" PRIu64 ", %" PRIu64 " unpacked\n", a[1], a[2], a[3]);
+        must(a[VILTHORWY_REFUSAL_PLACE] == 0, "the call isn't refused");
+        printf("at %" PRIu64 ", frequency %" PRIu64 ", %" PRIu64 " unpacked\n", a[VILTHORWY_DOC_PLACE], a[VILTHORWY_FREQ_PLACE],
+               a[VILTHORWY_UNPACKED_PLACE]);
     }
     return 0;
 }

@@ -20,8 +20,12 @@ unsafe extern "C" {
         answers: *mut u64, answers_len: usize) -> u64;
 }
 
-/// How many numbers an answer of `vilthorwy_run_calls` is, in the order that include/vilthorwy.h says.
+/// How many numbers an answer of `vilthorwy_run_calls` is, and the places of some of them, as in include/vilthorwy.h.
 const ANSWER_NUMBERS: usize = 5;
+const REFUSAL_PLACE: usize = 0;
+const DOC_PLACE: usize = 1;
+const FREQ_PLACE: usize = 2;
+const UNPACKED_PLACE: usize = 3;
 
 /// The answer itself; the program ends where it is a refusal.
 fn taken(call: &str, answer: u64) -> u64 {
@@ -70,8 +74,8 @@ fn main() {
         }
         assert_eq!(answers, lent_answers);
         for answer in answers.chunks(ANSWER_NUMBERS) {
-            assert_eq!(answer[0], 0, "the call isn't refused");
-            println!("at {}, frequency {}, {} unpacked", answer[1], answer[2], answer[3]);
+            assert_eq!(answer[REFUSAL_PLACE], 0, "the call isn't refused");
+            println!("at {}, frequency {}, {} unpacked", answer[DOC_PLACE], answer[FREQ_PLACE], answer[UNPACKED_PLACE]);
         }
     }
 }

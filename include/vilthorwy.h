@@ -19,9 +19,14 @@ extern "C" {
 #define VILTHORWY_REFUSED ((uint64_t)1 << 63)
 /* The document answered behind the last one. Ids lie below it. */
 #define VILTHORWY_TERMINATED 2147483647u
-/* How many numbers an answer of vilthorwy_run_calls is: refusal or 0, document, frequency, blocks unpacked, entries read; with a refusal
- * the others are 0. */
+/* How many numbers an answer of vilthorwy_run_calls is, and their places: refusal or 0, document, frequency, blocks unpacked, entries read;
+ * with a refusal the others are 0. */
 #define VILTHORWY_ANSWER_NUMBERS 5
+#define VILTHORWY_REFUSAL_PLACE 0
+#define VILTHORWY_DOC_PLACE 1
+#define VILTHORWY_FREQ_PLACE 2
+#define VILTHORWY_UNPACKED_PLACE 3
+#define VILTHORWY_ENTRIES_PLACE 4
 
 /* The numbers of the refusals. F is the number of full blocks, count / 128; the tail is the count % 128 documents behind them. */
 enum {

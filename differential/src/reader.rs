@@ -38,6 +38,13 @@ pub trait Reader: Sync {
 /// Numbers in an answer: the refusal's or 0, document, frequency, blocks unpacked, entries read.
 pub const ANSWER_NUMBERS: usize = 5;
 
+/// The answer of a refusal.
+pub fn refused(number: u64) -> [u64; ANSWER_NUMBERS] {
+    let mut answer = [0; ANSWER_NUMBERS];
+    answer[0] = number;
+    answer
+}
+
 pub trait Caller: Sync {
     fn name(&self) -> &'static str;
 

@@ -1,7 +1,7 @@
 //! Document 01 read once more: what stands in an image, and which question it fails first. Plain
 //! code of its own, in the order of the questions; it knows neither the Rust nor the library.
 
-use crate::reader::{Answer, Call, Caller, Image, Reader, ANSWER_NUMBERS};
+use crate::reader::{refused, Answer, Call, Caller, Image, Reader, ANSWER_NUMBERS};
 
 pub const END: u32 = 2147483647;
 
@@ -333,7 +333,7 @@ fn total(image: &Image, target: u32) -> Asked<u64> {
 fn answer(asked: Asked<()>, cursor: &Cursor) -> [u64; ANSWER_NUMBERS] {
     match asked {
         Ok(()) => [0, cursor.doc().into(), cursor.freq().into(), cursor.unpacked, cursor.entries],
-        Err(number) => [number.into(), 0, 0, 0, 0],
+        Err(number) => refused(number.into()),
     }
 }
 
@@ -341,7 +341,7 @@ fn answer(asked: Asked<()>, cursor: &Cursor) -> [u64; ANSWER_NUMBERS] {
 fn answers(image: &Image, requested: u8, calls: &[Call]) -> Vec<[u64; ANSWER_NUMBERS]> {
     let mut cursor = match Cursor::open(image, requested) {
         Ok(cursor) => cursor,
-        Err(number) => return vec![[number.into(), 0, 0, 0, 0]],
+        Err(number) => return vec![refused(number.into())],
     };
     let mut answers = vec![answer(Ok(()), &cursor)];
     for call in calls {

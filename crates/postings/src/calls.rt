@@ -18,8 +18,18 @@ ghost use Rattle.format.specs.Basics.{putAt};
 ghost use Rattle.segment_postings.specs.Called.{called, callsFrom, answerLength, numbers, allNumbers};
 ghost use Rattle.postings.specs.RunCalls.{callOf, allKnown, Runs};
 
-// How many numbers an answer is: a refusal's number or 0, document, frequency, blocks unpacked, entries read.
+// How many numbers an answer is, and their places: a refusal's number or 0, document, frequency, blocks unpacked, entries read.
 pub const ANSWER_NUMBERS: usize = 5;
+
+pub const REFUSAL_PLACE: usize = 0;
+
+pub const DOC_PLACE: usize = 1;
+
+pub const FREQ_PLACE: usize = 2;
+
+pub const UNPACKED_PLACE: usize = 3;
+
+pub const ENTRIES_PLACE: usize = 4;
 
 // Whether every kind is known.
 fn kinds_known(calls: &[u64]) -> bool
@@ -51,19 +61,26 @@ fn make_call(cursor: SegmentPostings, image: &[u8], term: Term, call: u64) -> Mo
     seek_by_lending(cursor, image, term, target)
 }
 
-// An answer's numbers, in order.
+// An answer's numbers, each in its place; the others are 0.
 fn numbers_of(answer: Answer) -> [u64; ANSWER_NUMBERS]
     ensures { λ r. ⌜ r ≡ numbers answer ⌝ }
 {
+    let mut numbers = [0u64; ANSWER_NUMBERS];
     match answer {
         Answer::At {
             doc,
             freq,
             unpacked,
             entries,
-        } => [0, doc as u64, freq as u64, unpacked as u64, entries as u64],
-        Answer::Refused(n) => [n as u64, 0, 0, 0, 0],
+        } => {
+            numbers[DOC_PLACE] = doc as u64;
+            numbers[FREQ_PLACE] = freq as u64;
+            numbers[UNPACKED_PLACE] = unpacked as u64;
+            numbers[ENTRIES_PLACE] = entries as u64;
+        }
+        Answer::Refused(n) => numbers[REFUSAL_PLACE] = n as u64,
     }
+    numbers
 }
 
 // Writes an answer.

@@ -97,6 +97,11 @@
 mod calls;
 
 pub use crate::calls::ANSWER_NUMBERS;
+pub use crate::calls::DOC_PLACE;
+pub use crate::calls::ENTRIES_PLACE;
+pub use crate::calls::FREQ_PLACE;
+pub use crate::calls::REFUSAL_PLACE;
+pub use crate::calls::UNPACKED_PLACE;
 pub use crate::calls::run_calls;
 pub use format::TERMINATED;
 pub use format::Term;

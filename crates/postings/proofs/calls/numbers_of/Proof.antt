@@ -8,17 +8,32 @@ use Rattle.postings.proofs.calls.numbers_of.Tie as tie
 enum-known-answer : tie.Need-enum-known-answer
 enum-known-answer c = search needs
 
-cast-t8 : tie.Need-cast-t8
-cast-t8 c = search needs
+cast-numbers : tie.Need-cast-numbers
+cast-numbers c = search needs
 
-cast-t9 : tie.Need-cast-t9
-cast-t9 c = search needs
+array-write-numbers : tie.Need-array-write-numbers
+array-write-numbers c = search needs
+
+cast-numbers-2 : tie.Need-cast-numbers-2
+cast-numbers-2 c = search needs
+
+array-write-numbers-2 : tie.Need-array-write-numbers-2
+array-write-numbers-2 c = search needs
+
+array-write-numbers-3 : tie.Need-array-write-numbers-3
+array-write-numbers-3 c = search needs
+
+array-write-numbers-4 : tie.Need-array-write-numbers-4
+array-write-numbers-4 c = search needs
 
 enum-known-answer-2 : tie.Need-enum-known-answer-2
 enum-known-answer-2 c = search needs
 
-cast-t12 : tie.Need-cast-t12
-cast-t12 c = search needs
+cast-numbers-3 : tie.Need-cast-numbers-3
+cast-numbers-3 c = search needs
+
+array-write-numbers-5 : tie.Need-array-write-numbers-5
+array-write-numbers-5 c = search needs
 
 returns : tie.Need-returns
 unfolding numbers
@@ -33,9 +48,14 @@ numbers-of-spec =
     tie.close
     (tie.spec
     enum-known-answer
-    cast-t8
-    cast-t9
+    cast-numbers
+    array-write-numbers
+    cast-numbers-2
+    array-write-numbers-2
+    array-write-numbers-3
+    array-write-numbers-4
     enum-known-answer-2
-    cast-t12
+    cast-numbers-3
+    array-write-numbers-5
     returns
     returns-2)
