@@ -4,7 +4,7 @@
 use mathlib.Core.Bool.{Bool}
 use mathlib.Core.List.{List}
 use mathlib.Core.Path.{_≡_, sym, ap, subst, _∙_}
-use Prim.Native.Nat.{ℕ, _+_, _≤_, _<_, _^_}
+use Prim.Native.Nat.{ℕ, _+_, _<_, _^_}
 use native.Mathlib.Numerals.{add-one}
 use native.Mathlib.Omega.{arith}
 use lib.ListN.{length, getD, drop}
@@ -19,7 +19,7 @@ use Rattle.serializer.specs.declared.Progress.{Progress}
 use Rattle.serializer.specs.declared.Progressed.{Progressed}
 use Rattle.serializer.specs.declared.Progressed.the-variants as progressed-as
 use Rattle.serializer.specs.declared.Written.the-variants.{Refused}
-use Rattle.serializer.specs.Writer.{Areas, fresh, taking, takeAll, listing, announcing}
+use Rattle.serializer.specs.Writer.{Areas, fresh, taking, takeAll, announcing}
 use Rattle.serializer.specs.Calls.{answered, progressed, stateOf, Begun, TookIn, ClosedFrom, ListedAs}
 use Rattle.serializer.specs.Lists.{HasRoom, WritesList}
 use Rattle.serializer.proofs.Laws.AnswerTells.{progressed-refused}

@@ -59,7 +59,7 @@ pub(crate) fn write_each(output: &mut [u8]) {
     tell_written(answer);
 }
 
-// An image's length.
+// An image's length, or the refusal's number.
 fn tell_written(answer: Written) {
     match answer {
         Written::Bytes(n) => tell(b"bytes", n as u64),
@@ -89,7 +89,7 @@ fn write_one(
     }
 }
 
-// The same with the arrays of the state in the caller's hands and its numbers beside them, so that no call copies a state.
+// The same with two arrays of the caller's own, in which documents wait, and the state's numbers beside them: no call copies a state.
 pub(crate) fn write_on_arrays(output: &mut [u8]) {
     let mut docs = [0u32; 128];
     let mut freqs = [0u32; 128];

@@ -66,8 +66,8 @@ tailFreqs true true n bs =
     ask (countable (ns .values)) freqOutOfRange λ _.
     ended (ns .values) (drop (ns .used) bs)
 
--- whether an image keeps frequencies, by what its entries hold; where no block stands before a tail of n documents (`alone`), a nonempty one
--- with no byte after its ids has none. bs is what follows the ids
+-- whether an image keeps frequencies: its layout's option says it; but where no block stands before a tail of n documents (`alone`), a
+-- nonempty one with no byte after its ids has none. bs is what follows the ids. An empty list keeps what its mode says (ours)
 unfoldable pub keepsFreqs : IndexRecordOption → Bool → ℕ → List ℕ → Bool
 unfolding hasFreq
 keepsFreqs option alone n bs = and (hasFreq option) (not (and alone (and (ltb 0 n) (eqb (length bs) 0))))
@@ -135,6 +135,7 @@ unfoldable pub keptBy : Term → Layout → List ℕ → Bool
 unfolding keepsFreqs fullBlocks tailLength tailNumbers
 keptBy t l bs = keepsFreqs (l .option) (eqb (fullBlocks t) 0) (tailLength t) (drop (tailNumbers (tailLength t) bs .used) bs)
 
+-- .. of an image. Where not all ids of a tail alone are there its reading is refused (8), and nothing goes by this
 unfoldable pub kept : Term → Layout → List ℕ → Bool
 unfolding keptBy postingBytes
 kept t l bs = keptBy t l (postingBytes l bs)

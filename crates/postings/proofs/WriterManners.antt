@@ -14,7 +14,7 @@ use Rattle.serializer.specs.declared.Accepted.the-variants.{Yes, Refused}
 use Rattle.serializer.specs.declared.PostingsSerializer.{PostingsSerializer}
 use Rattle.serializer.specs.declared.Step.{Step}
 use Rattle.serializer.specs.declared.Written.{Written}
-use Rattle.serializer.specs.Calls.{accepted, answered, beginning, Begun, Settled, progressOf, stateOf}
+use Rattle.serializer.specs.Calls.{accepted, answered, beginning, Begun, Settled, progressOf, stateOf, acceptance}
 use Rattle.serializer.specs.Writer.{Areas, fresh, taking, closing}
 use Rattle.serializer.proofs.Laws.AnswerTells.{accepted-yes, accepted-refused, progressed-at, progressed-refused, answers-yes, answers-no}
 use Rattle.serializer.proofs.Laws.ByValue.{begun-whole, begun-parts, settled-at, settled-no, arrays-stay}
@@ -34,7 +34,7 @@ settled-gives {o = ok a} h = record { answered = h .answer; left = rw (h .state,
 settled-gives {o = refused n} h = record { answered = h .answer; left = rw (h .state, h .skips-after, h .postings-after) }
 
 pub hands-gives : {d f : ℕ} {a b : Areas} {answer : Accepted} → Hands d f a answer b → Gives (taking (a .state) d f (a .skips) (a .postings)) a answer b
-unfolding stateOf
+unfolding stateOf acceptance
 hands-gives (handed-back t) = settled-gives t
 hands-gives (went-on p docs freqs t) = settled-gives (settled-at t (stateOf p docs freqs) refl)
 hands-gives (stayed p docs freqs t) =
@@ -81,13 +81,13 @@ closes-as (closed-parts p docs freqs k) = record {
 
 module _ {mode : ℕ} {recording : Bool} where
   pub begins-as : {answer : Accepted} {s : PostingsSerializer} → Begins mode recording answer s → answer ≡ accepted (begin mode recording)
-  unfolding beginning
+  unfolding beginning acceptance
   begins-as (handed-out e) = ap (λ s. s .answer) e
   begins-as (numbered p docs freqs e docs-long freqs-long) = answers-yes (progressed-at (λ _. fresh mode recording) (begin mode recording) e refl .1)
   begins-as (unnumbered e) = answers-no (progressed-refused (λ _. fresh mode recording) (begin mode recording) e refl)
 
   pub begins-begun : {answer : Accepted} {s : PostingsSerializer} → Begins mode recording answer s → answer ≡ Yes → Begun mode recording s
-  unfolding beginning
+  unfolding beginning acceptance
   begins-begun (handed-out e) granted = subst (Begun mode recording) (sym (ap (λ s. s .state) e)) (begun-whole mode recording)
   begins-begun (numbered p docs freqs e docs-long freqs-long) granted = begun-parts mode recording docs freqs e docs-long freqs-long
   begins-begun (unnumbered e) granted = absurd (let z : _≡_ {A = ℕ} 0 1 = cc in omega arith)

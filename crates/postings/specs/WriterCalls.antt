@@ -19,7 +19,7 @@ use Rattle.serializer.specs.declared.Progressed.the-variants as progressed-as
 use Rattle.serializer.specs.declared.Step.{Step}
 use Rattle.serializer.specs.declared.Written.{Written}
 use Rattle.serializer.specs.Writer.{Areas, fresh}
-use Rattle.serializer.specs.Calls.{acceptedNumber, writtenNumbers, beginning, Took, Closed, stateOf, progressed, TookIn, ClosedFrom}
+use Rattle.serializer.specs.Calls.{acceptedNumber, writtenNumbers, beginning, Took, Closed, stateOf, progressed, acceptance, TookIn, ClosedFrom}
 
 abbrev pub areasOf : PostingsSerializer → (skips postings : List ℕ) → Areas
 areasOf s skips postings = record { state = s; skips = skips; postings = postings }
@@ -32,10 +32,10 @@ pub data Begins (mode : ℕ) (recording : Bool) : Accepted → PostingsSerialize
   handed-out : {r : Step} → r ≡ beginning mode recording → Begins mode recording (r .answer) (r .state)
   -- `new_term_in` hands back the state's numbers, which make it together with two arrays of 128 places, whatever these hold
   numbered : (p : Progress) (docs freqs : List ℕ) → progressed-as.At p ≡ progressed (λ _. fresh mode recording) (begin mode recording)
-      → length docs ≡ 128 → length freqs ≡ 128 → Begins mode recording Yes (stateOf p docs freqs)
+      → length docs ≡ 128 → length freqs ≡ 128 → Begins mode recording (acceptance (progressed-as.At p)) (stateOf p docs freqs)
   -- .. or refuses: it hands back no numbers, and the caller may go on with any state
   unnumbered : {n : ℕ} {s : PostingsSerializer} → progressed-as.Refused n ≡ progressed (λ _. fresh mode recording) (begin mode recording)
-      → Begins mode recording (Refused n) s
+      → Begins mode recording (acceptance (progressed-as.Refused n)) s
 
 -- a state with its areas, what a document handed in was answered, and what the call left
 pub data Hands (d f : ℕ) : Areas → Accepted → Areas → Type 0 where
@@ -45,11 +45,11 @@ pub data Hands (d f : ℕ) : Areas → Accepted → Areas → Type 0 where
   -- `write_doc_in`, on two arrays that make the state together with its numbers, took it and hands back other numbers
   went-on : (p : Progress) (docs freqs : List ℕ) {skips postings docs′ freqs′ skips′ postings′ : List ℕ} {p′ : Progress}
       → TookIn (stateOf p docs freqs) d f skips postings docs′ freqs′ skips′ postings′ (progressed-as.At p′)
-      → Hands d f (areasOf (stateOf p docs freqs) skips postings) Yes (areasOf (stateOf p′ docs′ freqs′) skips′ postings′)
+      → Hands d f (areasOf (stateOf p docs freqs) skips postings) (acceptance (progressed-as.At p′)) (areasOf (stateOf p′ docs′ freqs′) skips′ postings′)
   -- .. or refused it: the caller still has its numbers, and the arrays as they are left
   stayed : (p : Progress) (docs freqs : List ℕ) {skips postings docs′ freqs′ skips′ postings′ : List ℕ} {n : ℕ}
       → TookIn (stateOf p docs freqs) d f skips postings docs′ freqs′ skips′ postings′ (progressed-as.Refused n)
-      → Hands d f (areasOf (stateOf p docs freqs) skips postings) (Refused n) (areasOf (stateOf p docs′ freqs′) skips′ postings′)
+      → Hands d f (areasOf (stateOf p docs freqs) skips postings) (acceptance (progressed-as.Refused n)) (areasOf (stateOf p docs′ freqs′) skips′ postings′)
 
 -- a state with its areas and the output, what closing under an announced count answered, and the output and the state that it left
 pub data Closes (announced : ℕ) : Areas → List ℕ → Written → List ℕ → PostingsSerializer → Type 0 where

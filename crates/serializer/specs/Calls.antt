@@ -102,6 +102,11 @@ unfolding progressOf
 progressed state (ok a) = progressed-as.At (progressOf (state a))
 progressed state (refused n) = progressed-as.Refused n
 
+-- .. and what such an answer says beside the numbers: yes, or a refusal's number
+unfoldable pub acceptance : Progressed → Accepted
+acceptance (progressed-as.At p) = Yes
+acceptance (progressed-as.Refused n) = No n
+
 -- what a call on two lent arrays that may write into the areas answers and leaves; a refusal leaves all as it was
 pub record SettledIn (o : Outcome Areas) (docs freqs skips postings docs′ freqs′ skips′ postings′ : List ℕ) (r : Progressed) : Type 0 where
   pub answer : r ≡ progressed (λ a. a .state) o

@@ -77,13 +77,15 @@ pub record ImagePut (image output output′ : List ℕ) (r : Written) : Type 0 w
   pub answer : r ≡ choose (fitsAt 0 image output) (λ _. Bytes (length image)) (λ _. No noRoom)
   pub output-after : output′ ≡ putAt 0 image output
 
--- ---- a document
+-- ---- question 16
 
 -- each id lies above the one before it
 unfoldable pub climbing : List ℕ → Bool
 climbing [] = true
 climbing (d ∷ []) = true
 climbing (d ∷ (e ∷ ds)) = and (ltb d e) (climbing (e ∷ ds))
+
+-- ---- a document
 
 -- the numbers with one document more, which waits ..
 abbrev pub oneMore : Progress → Progress

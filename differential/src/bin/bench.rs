@@ -84,7 +84,7 @@ fn write(list: &List) -> Vec<u8> {
         let sides: &mut [Side] = &mut [("Rust", &mut rust), ("library", &mut library)];
         report("document written", DOCUMENTS, sides);
         assert!(lent.output[..length] == image, "the images differ");
-        // The Rust knows no other way; the library's single calls, behind the questions of the whole list.
+        // The Rust writes document by document in any case; the library asks the questions of the whole list, then makes the single calls.
         lent.output[..length].fill(0);
         let announced = DOCUMENTS as u32;
         let mut rust = || image = oracle::write(list.mode, list.record, &list.ids, &list.freqs);

@@ -7,7 +7,6 @@ use native.Mathlib.Omega.{arith}
 use borrow.Author.Needs.{needs}
 use denote.Ref.{now}
 use lib.ListN.{length}
-use Rattle.serializer.specs.declared.PostingsSerializer.{PostingsSerializer}
 use Rattle.serializer.specs.Calls.{stateOf}
 use Rattle.serializer.specs.Writer.{takeAll}
 use Rattle.postings.specs.WriterCalls.{areasOf}

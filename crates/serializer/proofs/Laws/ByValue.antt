@@ -82,9 +82,9 @@ module _ {o : Outcome Areas} {docs freqs skips postings docs′ freqs′ skips�
 
 -- ---- closing
 
-pub closed-whole : (s : PostingsSerializer) {p : Progress} → p ≡ progressOf s → {announced : ℕ} {skips postings output output′ : List ℕ} {r : ClosedIn}
+pub closed-again : (s : PostingsSerializer) {p : Progress} → p ≡ progressOf s → {announced : ℕ} {skips postings output output′ : List ℕ} {r : ClosedIn}
     → ClosedFrom (stateOf p (s .docs) (s .freqs)) announced skips postings output output′ r → ClosedFrom s announced skips postings output output′ r
-closed-whole s e {announced} {skips} {postings} {output} {output′} {r} closed =
+closed-again s e {announced} {skips} {postings} {output} {output′} {r} closed =
     subst (λ (t : PostingsSerializer). ClosedFrom t announced skips postings output output′ r) (whole-again s e) closed
 
 module _ {s : PostingsSerializer} {announced : ℕ} {skips postings output output′ : List ℕ} {r : ClosedIn}
@@ -92,10 +92,10 @@ module _ {s : PostingsSerializer} {announced : ℕ} {skips postings output outpu
   abbrev outcome : Outcome (List ℕ)
   outcome = closing s announced skips postings output
 
-  pub closed-bytes : {n : ℕ} → r .answer ≡ Bytes n
+  pub closed-yes : {n : ℕ} → r .answer ≡ Bytes n
       → Closed s announced skips postings output output′ (record { answer = r .answer; state = fresh (s .mode) (s .recording) })
   unfolding orBefore
-  closed-bytes told =
+  closed-yes told =
       let k = answered-bytes length outcome (closed .answer) told in
       record { answer = closed .answer; state = rw (k .1); output-after = closed .output-after }
 

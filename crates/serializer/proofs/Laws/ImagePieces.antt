@@ -34,9 +34,9 @@ leb-same a b c d to from =
 
 -- ---- pieces
 
-pub kept : (t : Bool) (bs : List ℕ) → t ≡ true → onlyIf t bs ≡ bs
+pub all-kept : (t : Bool) (bs : List ℕ) → t ≡ true → onlyIf t bs ≡ bs
 unfolding onlyIf
-kept t bs e = rw e
+all-kept t bs e = rw e
 
 pub left-out : (t : Bool) (bs : List ℕ) → t ≡ false → onlyIf t bs ≡ []
 unfolding onlyIf

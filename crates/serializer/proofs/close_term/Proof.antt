@@ -4,7 +4,7 @@
 use denote.Ref.{now}
 use borrow.Author.Needs.{needs}
 use Rattle.serializer.specs.Calls.{ClosedFrom}
-use Rattle.serializer.proofs.Laws.ByValue.{closed-whole, closed-bytes, closed-no}
+use Rattle.serializer.proofs.Laws.ByValue.{closed-again, closed-yes, closed-no}
 use Rattle.serializer.proofs.close_term.Statement.{statement}
 use Rattle.serializer.proofs.close_term.Tie as tie
 
@@ -24,7 +24,7 @@ module _ (c : tie.After-close-term-in) where
 
   left : let a = start .args in
       ClosedFrom (a .state) (a .announced) (now (a .skips)) (now (a .postings)) (now (a .output)) (c .close-term-in .last .1 .1 .1 .1 .1 .1 .0) (c .close-term-in .result)
-  left = closed-whole (start .args .state) (apart .progress-of .ensures) (c .close-term-in .ensures)
+  left = closed-again (start .args .state) (apart .progress-of .ensures) (c .close-term-in .ensures)
 
 enum-told : tie.Need-enum-told
 enum-told c = search needs
@@ -47,7 +47,7 @@ same-length-2 c = search needs
 returns-2 : tie.Need-returns-2
 returns-2 c =
     let told = c .before in
-    rw (c .fresh .ensures) (closed-bytes (left (told .before .before .before .before)) (told .enum-told .given .1))
+    rw (c .fresh .ensures) (closed-yes (left (told .before .before .before .before)) (told .enum-told .given .1))
 
 pub close-term-spec : {M : Type 1} → statement M
 close-term-spec =

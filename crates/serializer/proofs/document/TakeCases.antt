@@ -214,7 +214,7 @@ module _ (s : PostingsSerializer) (d f : ℕ) (skips postings : List ℕ) (may :
   long : length (take 127 (s .docs)) ≡ 127
   long = length-take-le 127 (s .docs) (omega arith)
 
-  -- its first id may be any number of 32 bits
+  -- the least id that its first document may have lies below TERMINATED
   pub least-small : firstLeast s < TERMINATED
   least-small =
       let last = rising-last (firstLeast s) (take 127 (s .docs)) waiting-rise (omega (arith, long)) in

@@ -4,7 +4,7 @@
 use mathlib.Core.Bool.{Bool, true, false, _&&_ as and, and-eq-true-iff}
 use mathlib.Core.List.{List}
 use mathlib.Core.Path.{_≡_, refl, sym, ap, _∙_}
-use Prim.Native.Nat.{ℕ, _≤_, _<_}
+use Prim.Native.Nat.{ℕ, _≤_}
 use borrow.Author.Tests.{eq-eqb, ne-eqb, eqb-true}
 use lib.Dec.{leb, eqb}
 use lib.ListN.{length, take}

@@ -1,6 +1,6 @@
 -- `serializer::new_term` meets its contract: the call on the numbers alone says how question 1 is answered.
 -- Assumes nothing.
-use mathlib.Core.Path.{_≡_, ap₂}
+use mathlib.Core.Path.{ap₂}
 use borrow.Author.Needs.{needs}
 use Rattle.format.specs.Accepted.{begin}
 use Rattle.serializer.specs.declared.Accepted.{Accepted}

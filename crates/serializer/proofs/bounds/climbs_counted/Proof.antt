@@ -6,7 +6,7 @@ use mathlib.Core.Path.{_≡_}
 use Prim.Native.Nat.{_-_, _≤_}
 use native.Mathlib.Omega.{arith}
 use denote.Ref.{now}
-use lib.ListN.{length, getD, drop}
+use lib.ListN.{length, getD}
 use Rattle.format.specs.Values.{countable}
 use Rattle.serializer.specs.Pieces.{climbing}
 use Rattle.serializer.proofs.bounds.Waiting.{left, both-begin, both-on, both-end}

@@ -1,7 +1,7 @@
 -- `serializer::bounds::in_bounds` meets its contract: each test is a part of the question, and the first no answers it.
 -- Assumes nothing.
 use mathlib.Core.Path.{_≡_, sym, ap, ap₂, _∙_}
-use mathlib.Core.Bool.{true, not, _&&_ as and, _||_ as or}
+use mathlib.Core.Bool.{not, _&&_ as and, _||_ as or}
 use denote.Ref.{now}
 use native.Mathlib.Omega.{arith}
 use lib.Dec.{leb}
@@ -15,7 +15,7 @@ use Rattle.format.specs.SkipEntry.{hasFreq}
 use Rattle.format.specs.Values.{rising, countable}
 use Rattle.serializer.specs.declared.PostingsSerializer.{PostingsSerializer}
 use Rattle.serializer.specs.Calls.{stateOf}
-use Rattle.serializer.specs.Writer.{boundsHold, optionOf, firstLeast, waitingDocs, waitingFreqs}
+use Rattle.serializer.specs.Writer.{boundsHold, optionOf, waitingDocs, waitingFreqs}
 use Rattle.serializer.proofs.bounds.Question16.{many-wait, documentsAsked, documents-asked}
 use Rattle.serializer.proofs.bounds.in_bounds.Statement.{statement}
 use Rattle.serializer.proofs.bounds.in_bounds.Tie as tie

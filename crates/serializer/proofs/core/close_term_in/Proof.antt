@@ -1,4 +1,4 @@
--- `serializer::core::close_term_in` meets its contract: the questions in turn, and then whether the image fits, which `put_image` says.
+-- `serializer::core::close_term_in` meets its contract: the questions in turn, and then whether the image fits, which `put_term` says.
 -- Assumes nothing.
 use mathlib.Core.Path.{_≡_, sym, _∙_}
 use mathlib.Core.Bool.{true}

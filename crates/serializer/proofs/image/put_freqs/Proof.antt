@@ -5,7 +5,7 @@ use denote.Ref.{now}
 use borrow.Author.Needs.{needs}
 use Rattle.format.specs.SkipEntry.{hasFreq}
 use Rattle.format.specs.Vint.{vints}
-use Rattle.serializer.proofs.Laws.ImagePieces.{kept, left-out, put-none, put-next}
+use Rattle.serializer.proofs.Laws.ImagePieces.{all-kept, left-out, put-none, put-next}
 use Rattle.serializer.proofs.image.put_freqs.Statement.{statement}
 use Rattle.serializer.proofs.image.put_freqs.Tie as tie
 
@@ -26,7 +26,7 @@ returns c =
     let put = c .before .before .before in
     let tested = put .before .before in
     let start = tested .before .before .before .before in
-    let all = kept (hasFreq (start .args .option)) (vints (now (start .args .freqs))) (sym (tested .before .has-freq .ensures) ∙ tested .if1 .taken) in
+    let all = all-kept (hasFreq (start .args .option)) (vints (now (start .args .freqs))) (sym (tested .before .has-freq .ensures) ∙ tested .if1 .taken) in
     rw all (put-next (start .args .at) (vints (now (start .args .freqs))) (now (start .args .output)) (rw all at (start .pre)) (c .behind .ensures)
     (put .compress-unsorted .ensures .0) (put .compress-unsorted .ensures .1))
 
