@@ -89,8 +89,19 @@ fn write(list: &List) -> Vec<u8> {
         let announced = DOCUMENTS as u32;
         let mut rust = || image = oracle::write(list.mode, list.record, &list.ids, &list.freqs);
         let mut library = || length = write_docs(list, announced, &mut lent).unwrap() as usize;
-        let sides: &mut [Side] = &mut [("Rust", &mut rust), ("library", &mut library)];
-        report("document written by single calls", DOCUMENTS, sides);
+        // Without an output the last question is answered no, and nothing is written.
+        let [skips, postings] = [(); 2].map(|_| vec![0; 4 * DOCUMENTS]);
+        let mut without_output = Lent { skips, postings, output: Vec::new() };
+        let mut questions =
+            || assert_eq!(write_docs(list, announced, &mut without_output), Err(15));
+        let sides: &mut [Side] = &mut [
+            ("Rust", &mut rust),
+            ("library", &mut library),
+            ("the questions of the whole list alone", &mut questions),
+        ];
+        let times = report("document written by single calls", DOCUMENTS, sides);
+        let calls = times[1] - times[2];
+        println!("the single calls, without these: {calls:.2} ns, ratio {:.2}", calls / times[0]);
         assert!(lent.output[..length] == image, "the images differ");
     }
     image
@@ -176,7 +187,7 @@ fn seek_on_core(image: &Image, opener: &Opener, targets: &[u32]) {
 type Side<'a> = (&'a str, &'a mut dyn FnMut());
 
 /// The sides take turns, and the best of several runs counts. The Rust comes first.
-fn report(what: &str, count: usize, sides: &mut [Side]) {
+fn report(what: &str, count: usize, sides: &mut [Side]) -> Vec<f64> {
     let mut best = vec![f64::INFINITY; sides.len()];
     for _ in 0..RUNS {
         for ((_, side), best) in sides.iter_mut().zip(&mut best) {
@@ -190,4 +201,5 @@ fn report(what: &str, count: usize, sides: &mut [Side]) {
         print!("; {name} {time:.2} ns, ratio {:.2}", time / best[0]);
     }
     println!();
+    best
 }
