@@ -1,10 +1,9 @@
 pub mod Data
 pub mod Args
-pub mod Params
+pub mod Shifts
 pub mod Locals
 pub mod Lent
 pub mod Owns
-pub mod Shifts
 pub mod Calls
 pub mod Lends
 pub mod Over

@@ -81,7 +81,7 @@ use Rattle.thin.specs.Fold.{Turn, Ran, along, serves, begins}
 use Rattle.thin.proofs.Data.{Data, Two, Three, pairTy, tripleTy, uint, cell, lies, stands}
 use Rattle.thin.proofs.Init.{Init}
 use Rattle.thin.proofs.Args.{Arg, plain-arg, rows, tys, machine, typed-all, owned as held}
-use Rattle.thin.proofs.Shifts.{Kind, by-value, args, shifts, down, machine-down, owned-down, twice}
+use Rattle.thin.proofs.Shifts.{Kind, by-value, num, args, shifts, down, machine-down, owned-down, twice}
 use Rattle.thin.proofs.Calls.{Value, calls-value}
 use Rattle.thin.proofs.Lends.{Of, TwoLent, calls-lent}
 use Rattle.thin.proofs.Over.{Over, Entry, Stayed, leaves, stays-meets}
@@ -118,7 +118,7 @@ word = tyInt w64
 
 -- what done takes
 abbrev ended : Data → List (Kind 0)
-ended Q = by-value (uint w8) ∷ by-value (uint w64) ∷ by-value Q ∷ []
+ended Q = num w8 ∷ num w64 ∷ by-value Q ∷ []
 
 -- S is the elements' type, D any value of it, and little says that its size is a number of MIR. i₁ and i₂ are how d and f begin
 module _ {S Q A₁ A₂ : Data} (K : Data) (B : Two (uint w8) Q) (T : Three (uint w8) S Q) (O : Data) (D : S .row .Denot)
@@ -594,7 +594,7 @@ module _ {S Q A₁ A₂ : Data} (K : Data) (B : Two (uint w8) Q) (T : Three (uin
                   let y : X = step e z .1 .0 in
                   let longer : length (ys ++ (y ∷ [])) ≡ length ys + 1 = length-append ys (y ∷ []) in
                   let total : length ys + suc (length rest) ≡ m = inv .1 .0 in
-                  let w : Ran X State = serves step rest (next e z) in
+                  let w : Ran (X) State = serves step rest (next e z) in
                   let ahead : ran ≡ along (ys ++ (y ∷ [])) w =
                   inv .1 .1 .0 ∙ ap (along ys) (serving step e rest z served) ∙ sym (along-snoc ys y w) in
                   (refl, (omega arith, (ahead, is-q)))

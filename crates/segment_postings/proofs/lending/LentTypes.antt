@@ -6,7 +6,7 @@ use mir.Syntax.{w32}
 use denote.Builtin.{u8}
 use denote.Struct.Laws.{owed, owes}
 use Rattle.thin.proofs.Data.{Data, Two, struct, enum}
-use Rattle.thin.proofs.Params.{Param, slice, by-value, num}
+use Rattle.thin.proofs.Shifts.{Kind, by-value, num, slice}
 use Rattle.format.proofs.Term as Term
 use Rattle.format.proofs.Term.Laws as TermLaws
 use Rattle.segment_postings.proofs.SegmentPostings as Cursor
@@ -45,8 +45,8 @@ moved = record {
 }
 
 -- what `advance` and `seek` take beside the cursor
-abbrev pub advance-params : List (Param 1)
+abbrev pub advance-params : List (Kind 1)
 advance-params = slice 0 tt u8 ∷ by-value term ∷ []
 
-abbrev pub seek-params : List (Param 1)
+abbrev pub seek-params : List (Kind 1)
 seek-params = slice 0 tt u8 ∷ by-value term ∷ num w32 ∷ []
