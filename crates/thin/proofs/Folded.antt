@@ -19,7 +19,7 @@ use native.Mathlib.Nat.{not-suc-le-zero, le-of-suc-le-suc, suc-ne-zero}
 use native.Mathlib.Omega.{arith}
 use mathlib.Core.List.{List, [], _∷_, _++_}
 use lib.ListN.{length, getD, take, drop}
-use Rattle.thin.specs.Fold.{Turn, Ran, unlessRefused, after, along, serves, reached, begins}
+use Rattle.thin.specs.Fold.{Turn, Ran, unlessRefused, after, along, serves, stateBehind, begins}
 use Rattle.thin.proofs.Along.{serving}
 
 -- the two ways that a turn goes
@@ -59,19 +59,19 @@ module _ {X Z : Type 0} (f : X → Z → Turn X Z) where
   rest-stays =
       by-turns (λ xs z w. drop (w .1 .0) (w .1 .1 .0) ≡ drop (w .1 .0) xs) (λ z. refl) (λ x xs z w e h. h) (λ x xs z j e. refl)
 
-  pub last-state : (xs : List X) (z : Z) → serves f xs z .1 .1 .1 ≡ reached f (take (serves f xs z .1 .0) xs) z
+  pub last-state : (xs : List X) (z : Z) → serves f xs z .1 .1 .1 ≡ stateBehind f (take (serves f xs z .1 .0) xs) z
   last-state =
-      by-turns (λ xs z w. w .1 .1 .1 ≡ reached f (take (w .1 .0) xs) z) (λ z. refl) (λ x xs z w e h. h) (λ x xs z j e. refl)
+      by-turns (λ xs z w. w .1 .1 .1 ≡ stateBehind f (take (w .1 .0) xs) z) (λ z. refl) (λ x xs z w e h. h) (λ x xs z j e. refl)
 
   -- of the element i of xs, d where there is none: its turn from the state before it made y of it, and served
   abbrev Served : X → List X → Z → ℕ → X → Type 0
   Served d xs z i y =
-      (y ≡ f (getD xs i d) (reached f (take i xs) z) .1 .0) × (f (getD xs i d) (reached f (take i xs) z) .0 ≡ 0)
+      (y ≡ f (getD xs i d) (stateBehind f (take i xs) z) .1 .0) × (f (getD xs i d) (stateBehind f (take i xs) z) .0 ≡ 0)
 
   pub served-at :
       (d : X) (xs : List X) (z : Z) (i : ℕ) → i < serves f xs z .1 .0 →
-      (getD (serves f xs z .1 .1 .0) i d ≡ f (getD xs i d) (reached f (take i xs) z) .1 .0) ×
-      (f (getD xs i d) (reached f (take i xs) z) .0 ≡ 0)
+      (getD (serves f xs z .1 .1 .0) i d ≡ f (getD xs i d) (stateBehind f (take i xs) z) .1 .0) ×
+      (f (getD xs i d) (stateBehind f (take i xs) z) .0 ≡ 0)
   served-at d =
       by-turns (λ xs z w. (i : ℕ) → i < w .1 .0 → Served d xs z i (getD (w .1 .1 .0) i d))
       (λ z i h. absurd (not-suc-le-zero h)) (λ x xs z w e h i. next x xs z w e h i) (λ x xs z j e i h. absurd (not-suc-le-zero h))

@@ -236,7 +236,7 @@ module _ {S Q A₁ A₂ : Data} (K : Data) (B : Two (uint w8) Q) (T : Three (uin
     abbrev pub Done : {M : Type 1} (𝓤 : URA M) (H : Heap 𝓤) (A : Atoms 𝓤) → Contract 𝓤
     Done = Value (args (ended Q)) (O .row) (λ _ t. fin (t .0) (t .1 .0) (t .1 .1 .0))
 
-    abbrev pub stepOf : (κs : Lfts n) → Denots (rows (args ks) κs) → X → State → Turn (X) State
+    abbrev pub stepOf : (κs : Lfts n) → Denots (rows (args ks) κs) → X → State → Turn X State
     stepOf κs a e z =
         let r : T .row .Denot = tu κs (z .1 .0) (z .1 .1) (e, (z .0, a)) in
         (T .fst r, (T .snd r, (T .thd r, (tu₁ κs (z .1 .0) (z .1 .1) (e, (z .0, a)), tu₂ κs (z .1 .0) (z .1 .1) (e, (z .0, a))))))
@@ -246,11 +246,11 @@ module _ {S Q A₁ A₂ : Data} (K : Data) (B : Two (uint w8) Q) (T : Three (uin
         let r : B .row .Denot = op κs (i₁ .start) (i₂ .start) a in
         (B .fst r, (B .snd r, (op₁ κs (i₁ .start) (i₂ .start) a, op₂ κs (i₁ .start) (i₂ .start) a)))
 
-    abbrev run : (κs : Lfts (suc n)) → List X → Denots (rows inputs κs) → Ran (X) State
+    abbrev run : (κs : Lfts (suc n)) → List X → Denots (rows inputs κs) → Ran X State
     run κs xs a = begins (stepOf (κs .1) (down κs ks (a .1))) (beginOf (κs .1) (a .0, down κs ks (a .1))) xs
 
     abbrev of : (κs : Lfts (suc n)) → List X → Denots (rows inputs κs) → O .row .Denot
-    of κs xs a = let w : Ran (X) State = run κs xs a in fin (w .0) (w .1 .0) (w .1 .1 .1 .0)
+    of κs xs a = let w : Ran X State = run κs xs a in fin (w .0) (w .1 .0) (w .1 .1 .1 .0)
 
     abbrev of₁ : (κs : Lfts (suc n)) → List X → Denots (rows inputs κs) → List X
     of₁ κs xs a = run κs xs a .1 .1 .0
@@ -297,21 +297,21 @@ module _ {S Q A₁ A₂ : Data} (K : Data) (B : Two (uint w8) Q) (T : Three (uin
       abbrev out : X → State → T .row .Denot
       out e z = tu (κs .1) (z .1 .0) (z .1 .1) (e, (z .0, a′))
 
-      abbrev step : X → State → Turn (X) State
+      abbrev step : X → State → Turn X State
       step = stepOf (κs .1) a′
 
       abbrev next : X → State → State
       next e z = step e z .1 .1
 
-      abbrev ran : Ran (X) State
+      abbrev ran : Ran X State
       ran = run κs xs (k, a)
 
       -- the result and the list, where the walk gives them
       answered : (c j : ℕ) (ys : List X) (z : State) → ran ≡ (c, (j, (ys, z))) → fin c j (z .0) ≡ of κs xs (k, a)
-      answered c j ys z e = sym (ap (λ (w : Ran (X) State). fin (w .0) (w .1 .0) (w .1 .1 .1 .0)) e)
+      answered c j ys z e = sym (ap (λ (w : Ran X State). fin (w .0) (w .1 .0) (w .1 .1 .1 .0)) e)
 
       left : (c j : ℕ) (ys : List X) (z : State) → ran ≡ (c, (j, (ys, z))) → ys ≡ of₁ κs xs (k, a)
-      left c j ys z e = sym (ap (λ (w : Ran (X) State). w .1 .1 .0) e)
+      left c j ys z e = sym (ap (λ (w : Ran X State). w .1 .1 .0) e)
 
       -- the tokens of the other parameters' lifetimes, and what they own
       abbrev tokens : Item 𝓤
@@ -594,7 +594,7 @@ module _ {S Q A₁ A₂ : Data} (K : Data) (B : Two (uint w8) Q) (T : Three (uin
                   let y : X = step e z .1 .0 in
                   let longer : length (ys ++ (y ∷ [])) ≡ length ys + 1 = length-append ys (y ∷ []) in
                   let total : length ys + suc (length rest) ≡ m = inv .1 .0 in
-                  let w : Ran (X) State = serves step rest (next e z) in
+                  let w : Ran X State = serves step rest (next e z) in
                   let ahead : ran ≡ along (ys ++ (y ∷ [])) w =
                   inv .1 .1 .0 ∙ ap (along ys) (serving step e rest z served) ∙ sym (along-snoc ys y w) in
                   (refl, (omega arith, (ahead, is-q)))

@@ -7,7 +7,7 @@
 --                      and the state that is left
 --     serves f xs z    the walk from the state z up to the first refusal. The elements before that are as their turns left them,
 --                      that one and the rest are as they were, and the state is that of the last turn that served
---     reached f xs z   the state that turns over all of xs lead to, each from the state that the one before left
+--     stateBehind f xs z      the state that turns over all of xs lead to, each from the state that the one before left
 --     begins f b xs    the walk behind an opening, which gives the number b .0 and the state b .1: no turn is made where the number
 --                      isn't 0
 -- Laws of these stand in `proofs/Folded.antt`.
@@ -42,9 +42,9 @@ abbrev pub serves : {X Z : Type 0} → (X → Z → Turn X Z) → List X → Z �
 serves f [] z = (0, (0, ([], z)))
 serves f (x ∷ xs) z = unlessRefused (f x z .0) (after (f x z .1 .0) (serves f xs (f x z .1 .1))) (f x z .0, (0, (x ∷ xs, z)))
 
-abbrev pub reached : {X Z : Type 0} → (X → Z → Turn X Z) → List X → Z → Z
-reached f [] z = z
-reached f (x ∷ xs) z = reached f xs (f x z .1 .1)
+abbrev pub stateBehind : {X Z : Type 0} → (X → Z → Turn X Z) → List X → Z → Z
+stateBehind f [] z = z
+stateBehind f (x ∷ xs) z = stateBehind f xs (f x z .1 .1)
 
 abbrev pub begins : {X Z : Type 0} → (X → Z → Turn X Z) → ℕ × Z → List X → Ran X Z
 begins f b xs = unlessRefused (b .0) (serves f xs (b .1)) (b .0, (0, (xs, b .1)))
