@@ -56,7 +56,7 @@ pub struct Served {
     pub entries: usize,
 }
 
-// One target: 10 where its id is above 2147483647, else 17 where it falls, behind the refusals of those before it.
+// One target: 10 where its id is above 2147483647, whatever was refused before; else the refusal so far; else 17 where it falls.
 fn ask(asked: Asked, t: Target) -> Asked
     ensures { λ r. ⌜ r ≡ asksOne asked t ⌝ }
 {
