@@ -176,11 +176,12 @@ unfolding restored reduction
 restored-plain [] = refl
 restored-plain (v ∷ vs) = ap₂ (λ (k : ℕ) (ks : List ℕ). k ∷ ks) (add-zero v) (restored-plain vs)
 
-restored-below : (strict : Bool) (vs : List ℕ) → AllBelow (2 ^ 32) vs → AllBelow (2 ^ 32 + 1) (restored strict vs)
+-- .. and pass a bound by one at most
+restored-below : (strict : Bool) (b : ℕ) (vs : List ℕ) → AllBelow b vs → AllBelow (b + 1) (restored strict vs)
 unfolding restored reduction
-restored-below strict [] a = tt
-restored-below true (v ∷ vs) a = (omega (arith, a .0), restored-below true vs (a .1))
-restored-below false (v ∷ vs) a = (omega (arith, a .0), restored-below false vs (a .1))
+restored-below strict b [] a = tt
+restored-below true b (v ∷ vs) a = (omega (arith, a .0), restored-below true b vs (a .1))
+restored-below false b (v ∷ vs) a = (omega (arith, a .0), restored-below false b vs (a .1))
 
 -- ---- a full block
 
@@ -216,14 +217,9 @@ asDifferences-below least [] a = tt
 asDifferences-below zero (v ∷ vs) a = (first-below v, a .1)
 asDifferences-below (suc least) (v ∷ vs) a = a
 
-strict-below : (vs : List ℕ) → AllBelow (2 ^ 31) vs → AllBelow (2 ^ 32) (restored true vs)
-unfolding restored reduction
-strict-below [] a = tt
-strict-below (v ∷ vs) a = (omega (arith, a .0), strict-below vs (a .1))
-
 pub fullDifferences-below : (strict : Bool) (least : ℕ) (vs : List ℕ) → AllBelow (2 ^ 31) vs → AllBelow (2 ^ 32) (fullDifferences strict least vs)
 unfolding fullDifferences
-fullDifferences-below true least vs a = strict-below vs a
+fullDifferences-below true least vs a = allBelow-le (restored true vs) (omega arith) (restored-below true (2 ^ 31) vs a)
 fullDifferences-below false least vs a = asDifferences-below least vs (allBelow-le vs (omega arith) a)
 
 module _ (e : BlockInfo) (kept : Bool) (unpacked : ℕ) (bs : List ℕ) where
@@ -242,7 +238,7 @@ module _ (e : BlockInfo) (kept : Bool) (unpacked : ℕ) (bs : List ℕ) where
       let vs : List ℕ = unpack (e .«freq_width») (drop (16 * e .«doc_width») bs) in
       let below : AllBelow (2 ^ 32) vs = allBelow-le vs (pow-le-pow-right {n = 2} (omega arith) {i = e .«freq_width»} {j = 32} narrow) (unpack-below _ _) in
       rw (all (map (withMore (reduction (e .strict))) vs) (length-map vs _ ∙ unpack-length _ _), with-more (e .strict) vs, fullFreqs-read e bs)
-      (freqs-same (restored (e .strict) vs) (restored-below (e .strict) vs below) freqOutOfRange ok)
+      (freqs-same (restored (e .strict) vs) (restored-below (e .strict) (2 ^ 32) vs below) freqOutOfRange ok)
 
   pub asked-full : (least : ℕ) (nonzero read : Bool) (freqs : List ℕ) → askedFreqs (fullTaken e nonzero kept unpacked) freqs ≡ fullFreqs read e bs
       → asked (fullTaken e nonzero kept unpacked) least (fullDifferences (e .strict) least (unpack (e .«doc_width») bs)) freqs ≡ fullBlock read least e bs
