@@ -8,12 +8,12 @@ use lib.ListN.{length, drop}
 use Rattle.format.specs.declared.Layout.{Layout}
 use Rattle.format.specs.declared.Term.{Term}
 use Rattle.format.specs.Basics.{Outcome, ok, refused, andThen, TERMINATED}
+use Rattle.format.specs.Model.{Call, step, seek}
 use Rattle.format.specs.SkipEntry.{blockSize}
 use Rattle.format.specs.Layout.{layout, fullBlocks}
 use Rattle.format.specs.Reading.{Block, keptBy}
 use Rattle.segment_postings.specs.declared.Answer.the-variants.{Refused}
 use Rattle.segment_postings.specs.declared.Held.{Held}
-use Rattle.segment_postings.specs.declared.Moved.{Moved}
 use Rattle.segment_postings.specs.declared.Reached.{Reached}
 use Rattle.segment_postings.specs.declared.Reached.the-variants as reached-as
 use Rattle.segment_postings.specs.declared.SegmentPostings.{SegmentPostings}
@@ -27,7 +27,7 @@ use Rattle.segment_postings.specs.declared.load.Loaded.{Loaded}
 use Rattle.segment_postings.specs.declared.load.Loaded.the-variants as loaded-as
 use Rattle.segment_postings.specs.declared.seeks.Went.{Went}
 use Rattle.segment_postings.specs.Landing.{loadBlock, padded, holding}
-use Rattle.segment_postings.specs.Cursor.{answerAt, advanced, sought}
+use Rattle.segment_postings.specs.Cursor.{answerAt}
 use Rattle.segment_postings.specs.Calls.{cursorOf, reached}
 
 -- ---- the layout
@@ -89,8 +89,7 @@ unfolding answerAt
 answered t was docs freqs (reached-as.At held) = record { answer = answerAt t (cursorOf held docs freqs); held = held }
 answered t was docs freqs (reached-as.Refused n) = record { answer = Refused n; held = was }
 
--- a step, or a seek to the target
-unfoldable pub going : (step : Bool) → SegmentPostings → List ℕ → Term → (target : ℕ) → Moved
-unfolding advanced sought
-going true c bs t target = advanced c bs t
-going false c bs t target = sought c bs t target
+-- the call that `go` makes: a step, or a seek to the target
+unfoldable pub callBy : Bool → (target : ℕ) → Call
+callBy true target = step
+callBy false target = seek target

@@ -26,8 +26,9 @@ ghost use mathlib.Core.List.{List};
 ghost use Prim.Native.Nat.{ℕ, _/_, _≤_, _<_};
 ghost use lib.ListN.{length};
 ghost use Rattle.segment_postings.specs.Cursor.{inBounds, within, behind, seeking, sought, seekingFresh, ranking};
+ghost use Rattle.segment_postings.specs.Called.{called};
 ghost use Rattle.segment_postings.specs.Calls.{cursorOf, Leaves, reached, Reaches, valued};
-ghost use Rattle.segment_postings.specs.Private.{answered, going};
+ghost use Rattle.segment_postings.specs.Private.{answered, callBy};
 
 // Seeks in the held block. Values that fit no image may have no place for the target behind the present one: 16.
 fn seek_within(held: Held, term: Term, target: u32, docs: &[u32; 128]) -> Reached
@@ -143,7 +144,7 @@ pub(crate) fn go(
     docs: &mut [u32; 128],
     freqs: &mut [u32; 128],
 ) -> Went
-    ensures { λ r. ⌜ Leaves (going step (cursorOf held (now (docs .entry)) (now (freqs .entry))) (now (image .entry)) term target) (r .answer) (cursorOf (r .held) (now (docs .exit)) (now (freqs .exit))) ⌝ }
+    ensures { λ r. ⌜ Leaves (called (cursorOf held (now (docs .entry)) (now (freqs .entry))) (now (image .entry)) term (callBy step target)) (r .answer) (cursorOf (r .held) (now (docs .exit)) (now (freqs .exit))) ⌝ }
 {
     let reached = if step {
         advance_in(held, image, term, docs, freqs)

@@ -13,9 +13,9 @@ use Rattle.segment_postings.specs.declared.Reached.{Reached}
 use Rattle.segment_postings.specs.declared.Reached.the-variants.{At}
 use Rattle.segment_postings.specs.declared.SegmentPostings.{SegmentPostings}
 use Rattle.segment_postings.specs.Cursor.{stepping, seeking}
-use Rattle.segment_postings.specs.Called.{SameCall}
+use Rattle.segment_postings.specs.Called.{called, SameCall}
 use Rattle.segment_postings.specs.Calls.{cursorOf, Reaches}
-use Rattle.segment_postings.specs.Private.{going}
+use Rattle.segment_postings.specs.Private.{callBy}
 use Rattle.segment_postings.proofs.Laws.CallsByValue.{advance-in-calls, seek-in-calls, answered-leaves, reached-near}
 use Rattle.segment_postings.proofs.Laws.ReachedBounds.{stepping-near, seeking-near}
 use Rattle.segment_postings.proofs.seeks.go.Statement.{statement}
@@ -31,13 +31,13 @@ seek-in-requires c κs = search needs
 module _ (was : SegmentPostings) (bs : List ℕ) (t : Term) (target : ℕ) {step : Bool} {docs docs′ freqs freqs′ : List ℕ} {r r′ : Reached}
     (d : docs ≡ docs′) (f : freqs ≡ freqs′) (e : r ≡ r′) where
   steps : step ≡ true → Reaches (stepping was bs t) (was .docs) (was .freqs) docs′ freqs′ r′
-      → SameCall t was (going step was bs t target) (was .docs) (was .freqs) docs freqs r
-  unfolding going
+      → SameCall t was (called was bs t (callBy step target)) (was .docs) (was .freqs) docs freqs r
+  unfolding called callBy
   steps taken k = rw (taken, d, f, e) (advance-in-calls bs t was k)
 
   seeks : step ≡ false → Reaches (seeking was bs t target) (was .docs) (was .freqs) docs′ freqs′ r′
-      → SameCall t was (going step was bs t target) (was .docs) (was .freqs) docs freqs r
-  unfolding going
+      → SameCall t was (called was bs t (callBy step target)) (was .docs) (was .freqs) docs freqs r
+  unfolding called callBy
   seeks left k = rw (left, d, f, e) (seek-in-calls bs t was target k)
 
 -- where they meet
@@ -50,7 +50,7 @@ module _ (c : tie.Joined1) where
 
   same : let s = c .before .before .args in
       let was = cursorOf (s .held) (s .docs .now) (s .freqs .now) in
-      SameCall (s .term) was (going (s .step) was (s .image .now) (s .term) (s .target)) (s .docs .now) (s .freqs .now)
+      SameCall (s .term) was (called was (s .image .now) (s .term) (callBy (s .step) (s .target))) (s .docs .now) (s .freqs .now)
       (c .if1 .docs) (c .if1 .freqs) (c .if1 .reached)
   same = ⊎-elim
       (λ w. steps _ _ _ _ (w .4) (w .5) (w .6) (w .0 .taken) (w .3 .ensures))
