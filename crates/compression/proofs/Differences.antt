@@ -18,7 +18,7 @@ use Rattle.format.specs.Values.{idsFrom, ids, restored, rising, reduction, orig
 use Rattle.format.proofs.Lists.{allBelow-le}
 use Rattle.format.proofs.Values.{rising-below}
 use Rattle.compression.specs.declared.values.Restored.{Restored}
-use Rattle.compression.specs.Restored.{idsBehind, inOrder, firstDifference, asDifferences, risen, inPlace, ending, sumsBehind, foundZero, DocsRestored}
+use Rattle.compression.specs.Restored.{idsBehind, differencesRise, firstDifference, asDifferences, risen, inPlace, ending, sumsBehind, foundZero, DocsRestored}
 use Rattle.compression.proofs.Frequencies.{kept-below}
 
 pub length-idsBehind : (least : ℕ) (ds : List ℕ) → length (idsBehind least ds) ≡ length ds
@@ -36,8 +36,8 @@ last-any y z least (d ∷ ds) h = refl
 
 -- what is known of differences that stand for values: question 6 is the same, and where it is passed the ids are
 pub record Differ (strict : Bool) (least : ℕ) (vs ds : List ℕ) : Type 0 where
-  pub question : inOrder least ds ≡ rising least (ids strict least vs)
-  pub same : inOrder least ds ≡ true → idsBehind least ds ≡ ids strict least vs
+  pub question : differencesRise least ds ≡ rising least (ids strict least vs)
+  pub same : differencesRise least ds ≡ true → idsBehind least ds ≡ ids strict least vs
 
 -- one below a bound
 below-leb : (a b : ℕ) → leb (a + 1) b ≡ ltb a b
@@ -48,8 +48,8 @@ below-leb a b = go (ltb a b) refl
     go false e = lt-leb (a + 1) b (omega (arith, ltb-false a b e))
 
 -- the strict form: one more than the value
-strict-question : (least : ℕ) (vs : List ℕ) → inOrder least (restored true vs) ≡ rising least (idsFrom 1 least vs)
-unfolding inOrder restored reduction rising idsFrom
+strict-question : (least : ℕ) (vs : List ℕ) → differencesRise least (restored true vs) ≡ rising least (idsFrom 1 least vs)
+unfolding differencesRise restored reduction rising idsFrom
 strict-question least [] = refl
 strict-question least (v ∷ vs) =
     let next : least + (v + 1) ≡ least + v + 1 = omega arith in
@@ -68,8 +68,8 @@ unfolding ids origin reduction
 differ-strict least vs = record { question = strict-question least vs; same = λ _. strict-same least vs }
 
 -- the non-strict form, behind an id d
-plain-question : (d : ℕ) (vs : List ℕ) → inOrder (d + 1) vs ≡ rising (d + 1) (idsFrom 0 d vs)
-unfolding inOrder rising idsFrom
+plain-question : (d : ℕ) (vs : List ℕ) → differencesRise (d + 1) vs ≡ rising (d + 1) (idsFrom 0 d vs)
+unfolding differencesRise rising idsFrom
 plain-question d [] = refl
 plain-question d (zero ∷ vs) = rw (lt-leb (d + 1) (d + 0) (omega arith))
 plain-question d (suc v ∷ vs) =
@@ -89,37 +89,37 @@ pub ids-first : (v : ℕ) (vs : List ℕ) → idsFrom 0 0 (v ∷ vs) ≡ v ∷ i
 unfolding idsFrom
 ids-first v vs = rw (zero-add, add-zero)
 
-in-order-first : (d : ℕ) (ds : List ℕ) → inOrder 0 (d ∷ ds) ≡ and (and (leb 1 d) (leb d TERMINATED)) (inOrder d ds)
-unfolding inOrder
-in-order-first d ds = rw zero-add
+differencesRise-first : (d : ℕ) (ds : List ℕ) → differencesRise 0 (d ∷ ds) ≡ and (and (leb 1 d) (leb d TERMINATED)) (differencesRise d ds)
+unfolding differencesRise
+differencesRise-first d ds = rw zero-add
 
 pub behind-first : (d : ℕ) (ds : List ℕ) → idsBehind 0 (d ∷ ds) ≡ (d - 1) ∷ idsBehind d ds
 unfolding idsBehind
 behind-first d ds = rw zero-add
 
-first-question : (v : ℕ) (vs : List ℕ) → inOrder 0 (firstDifference v ∷ vs) ≡ rising 0 (idsFrom 0 0 (v ∷ vs))
+first-question : (v : ℕ) (vs : List ℕ) → differencesRise 0 (firstDifference v ∷ vs) ≡ rising 0 (idsFrom 0 0 (v ∷ vs))
 unfolding rising firstDifference choose
-first-question v vs = in-order-first (firstDifference v) vs ∙ (go (ltb v TERMINATED) refl ∙ rw (ids-first v vs))
+first-question v vs = differencesRise-first (firstDifference v) vs ∙ (go (ltb v TERMINATED) refl ∙ rw (ids-first v vs))
   where
     go : (t : Bool) → ltb v TERMINATED ≡ t
         → (let d : ℕ = choose t (λ _. v + 1) (λ _. 0) in
-        and (and (leb 1 d) (leb d TERMINATED)) (inOrder d vs) ≡ and (and (leb 0 v) (ltb v TERMINATED)) (rising (v + 1) (idsFrom 0 v vs)))
+        and (and (leb 1 d) (leb d TERMINATED)) (differencesRise d vs) ≡ and (and (leb 0 v) (ltb v TERMINATED)) (rising (v + 1) (idsFrom 0 v vs)))
     go true e = rw (le-leb 1 (v + 1) (omega arith), below-leb v TERMINATED, le-leb 0 v (omega arith), plain-question v vs)
     go false e = sym (rw (e, and-false (leb 0 v)))
 
-first-same : (v : ℕ) (vs : List ℕ) → inOrder 0 (firstDifference v ∷ vs) ≡ true → idsBehind 0 (firstDifference v ∷ vs) ≡ idsFrom 0 0 (v ∷ vs)
+first-same : (v : ℕ) (vs : List ℕ) → differencesRise 0 (firstDifference v ∷ vs) ≡ true → idsBehind 0 (firstDifference v ∷ vs) ≡ idsFrom 0 0 (v ∷ vs)
 unfolding firstDifference choose
 first-same v vs h =
-    behind-first (firstDifference v) vs ∙ (go (ltb v TERMINATED) (sym (in-order-first (firstDifference v) vs) ∙ h) ∙ sym (ids-first v vs))
+    behind-first (firstDifference v) vs ∙ (go (ltb v TERMINATED) (sym (differencesRise-first (firstDifference v) vs) ∙ h) ∙ sym (ids-first v vs))
   where
     go : (t : Bool)
         → (let d : ℕ = choose t (λ _. v + 1) (λ _. 0) in
-        and (and (leb 1 d) (leb d TERMINATED)) (inOrder d vs) ≡ true → ((d - 1) ∷ idsBehind d vs) ≡ (v ∷ idsFrom 0 v vs))
+        and (and (leb 1 d) (leb d TERMINATED)) (differencesRise d vs) ≡ true → ((d - 1) ∷ idsBehind d vs) ≡ (v ∷ idsFrom 0 v vs))
     go true h = ap₂ (λ (d : ℕ) (ds : List ℕ). d ∷ ds) (add-sub-cancel v 1) (plain-same v vs)
     go false h = absurd (false≢true h)
 
 pub differ-plain : (least : ℕ) (vs : List ℕ) → Differ false least vs (asDifferences least vs)
-unfolding asDifferences ids idsFrom origin reduction inOrder idsBehind rising
+unfolding asDifferences ids idsFrom origin reduction differencesRise idsBehind rising
 differ-plain zero [] = record { question = refl; same = λ _. refl }
 differ-plain (suc d) [] = record { question = refl; same = λ _. refl }
 differ-plain zero (v ∷ vs) = record { question = first-question v vs; same = first-same v vs }
@@ -147,43 +147,43 @@ absorbed least last h = go (ltb last TERMINATED) refl
     go false e = and-false (leb least TERMINATED)
 
 -- where no difference is 0 the last id decides; z stands before them
-pub in-order-last : (z least : ℕ) (ds : List ℕ) → 0 < length ds → member 0 ds ≡ false
-    → inOrder least ds ≡ ltb (lastOf z (idsBehind least ds)) TERMINATED
-unfolding inOrder idsBehind lastOf member
-in-order-last z least [] some h = absurd (omega arith)
-in-order-last z least (zero ∷ ds) some h = absurd (false≢true (sym h))
-in-order-last z least (suc d ∷ []) some h =
+pub differencesRise-last : (z least : ℕ) (ds : List ℕ) → 0 < length ds → member 0 ds ≡ false
+    → differencesRise least ds ≡ ltb (lastOf z (idsBehind least ds)) TERMINATED
+unfolding differencesRise idsBehind lastOf member
+differencesRise-last z least [] some h = absurd (omega arith)
+differencesRise-last z least (zero ∷ ds) some h = absurd (false≢true (sym h))
+differencesRise-last z least (suc d ∷ []) some h =
     let one : least + suc d - 1 + 1 ≡ least + suc d = omega arith in
     rw (le-leb 1 (suc d) (omega arith), and-true, ← one, below-leb (least + suc d - 1) TERMINATED, one)
-in-order-last z least (suc d ∷ (e ∷ ds)) some h =
+differencesRise-last z least (suc d ∷ (e ∷ ds)) some h =
     let next : ℕ = least + suc d in
-    rw (le-leb 1 (suc d) (omega arith), in-order-last (next - 1) next (e ∷ ds) (zero-lt-suc _) (rw (ne-eqb 0 (suc d) (omega arith)) at h))
+    rw (le-leb 1 (suc d) (omega arith), differencesRise-last (next - 1) next (e ∷ ds) (zero-lt-suc _) (rw (ne-eqb 0 (suc d) (omega arith)) at h))
     (absorbed next (lastOf (next - 1) (idsBehind next (e ∷ ds))) (last-least next (e ∷ ds)))
 
--- where one is 0 they aren't in order
-pub zero-out-of-order : (least : ℕ) (ds : List ℕ) → member 0 ds ≡ true → inOrder least ds ≡ false
-unfolding inOrder member
-zero-out-of-order least [] h = absurd (false≢true h)
-zero-out-of-order least (zero ∷ ds) h = refl
-zero-out-of-order least (suc d ∷ ds) h =
-    rw (zero-out-of-order (least + suc d) ds (rw (ne-eqb 0 (suc d) (omega arith)) at h)) (and-false (and (leb 1 (suc d)) (leb (least + suc d) TERMINATED)))
+-- where one is 0 question 6 is a no
+pub differencesRise-zero : (least : ℕ) (ds : List ℕ) → member 0 ds ≡ true → differencesRise least ds ≡ false
+unfolding differencesRise member
+differencesRise-zero least [] h = absurd (false≢true h)
+differencesRise-zero least (zero ∷ ds) h = refl
+differencesRise-zero least (suc d ∷ ds) h =
+    rw (differencesRise-zero (least + suc d) ds (rw (ne-eqb 0 (suc d) (omega arith)) at h)) (and-false (and (leb 1 (suc d)) (leb (least + suc d) TERMINATED)))
 
--- differences in order are those of ids that rise
-pub in-order-rising : (least : ℕ) (ds : List ℕ) → inOrder least ds ≡ true → rising least (idsBehind least ds) ≡ true
-unfolding inOrder idsBehind rising
-in-order-rising least [] h = refl
-in-order-rising least (d ∷ ds) h =
-    let p = and-eq-true-iff (and (leb 1 d) (leb (least + d) TERMINATED)) (inOrder (least + d) ds) .0 h in
+-- where question 6 is a yes the ids rise
+pub differencesRise-rising : (least : ℕ) (ds : List ℕ) → differencesRise least ds ≡ true → rising least (idsBehind least ds) ≡ true
+unfolding differencesRise idsBehind rising
+differencesRise-rising least [] h = refl
+differencesRise-rising least (d ∷ ds) h =
+    let p = and-eq-true-iff (and (leb 1 d) (leb (least + d) TERMINATED)) (differencesRise (least + d) ds) .0 h in
     let q = and-eq-true-iff (leb 1 d) (leb (least + d) TERMINATED) .0 (p .0) in
     let some : 1 ≤ d = leb-true 1 d (q .0) in
     let few : least + d ≤ TERMINATED = leb-true (least + d) TERMINATED (q .1) in
     let next : least + d - 1 + 1 ≡ least + d = omega arith in
-    rw (le-leb least (least + d - 1) (omega arith), lt-ltb (least + d - 1) TERMINATED (omega arith), next) (in-order-rising (least + d) ds (p .1))
+    rw (le-leb least (least + d - 1) (omega arith), lt-ltb (least + d - 1) TERMINATED (omega arith), next) (differencesRise-rising (least + d) ds (p .1))
 
 -- a place of 32 bits holds each id whole
-pub ids-kept : (least : ℕ) (ds : List ℕ) → inOrder least ds ≡ true → map (λ d. d % 2 ^ 32) (idsBehind least ds) ≡ idsBehind least ds
+pub ids-kept : (least : ℕ) (ds : List ℕ) → differencesRise least ds ≡ true → map (λ d. d % 2 ^ 32) (idsBehind least ds) ≡ idsBehind least ds
 ids-kept least ds h =
-    kept-below (idsBehind least ds) (allBelow-le (idsBehind least ds) (omega arith) (rising-below least (idsBehind least ds) (in-order-rising least ds h)))
+    kept-below (idsBehind least ds) (allBelow-le (idsBehind least ds) (omega arith) (rising-below least (idsBehind least ds) (differencesRise-rising least ds h)))
 
 -- ---- what `restore_docs` leaves
 
@@ -199,9 +199,9 @@ sums-are (suc before) (d ∷ ds) h = rw add-one at (sym (plain-same before (d �
 
 -- .. and question 6 is answered by the last one
 ends-as : (least : ℕ) (ds : List ℕ) → member 0 ds ≡ false → ending (lastOf 0 (idsBehind least ds)) ≡ risen least ds
-unfolding ending risen choose idsBehind inOrder lastOf
+unfolding ending risen choose idsBehind differencesRise lastOf
 ends-as least [] h = refl
-ends-as least (d ∷ ds) h = rw (in-order-last 0 least (d ∷ ds) (zero-lt-suc _) h)
+ends-as least (d ∷ ds) h = rw (differencesRise-last 0 least (d ∷ ds) (zero-lt-suc _) h)
 
 module _ {least n : ℕ} {nonzero : Bool} {entry exit : List ℕ} {answer : Restored} (r : DocsRestored least n nonzero entry exit answer)
     (known : nonzero ≡ true → member 0 (take n entry) ≡ false) where
@@ -226,13 +226,13 @@ module _ {least n : ℕ} {nonzero : Bool} {entry exit : List ℕ} {answer : Rest
   restored-answers = go (member 0 ds) refl
     where
       go : (t : Bool) → member 0 ds ≡ t → answer ≡ risen least ds
-      go true some = r .answered ∙ rw (finds some, zero-out-of-order least ds some)
+      go true some = r .answered ∙ rw (finds some, differencesRise-zero least ds some)
       go false none = r .answered ∙ rw (finds-none none, sums-are least ds none) (ends-as least ds none)
 
-  pub restored-ids : inOrder least ds ≡ true → exit ≡ idsBehind least ds ++ drop n entry
+  pub restored-ids : differencesRise least ds ≡ true → exit ≡ idsBehind least ds ++ drop n entry
   unfolding choose inPlace
   restored-ids h = go (member 0 ds) refl
     where
       go : (t : Bool) → member 0 ds ≡ t → exit ≡ idsBehind least ds ++ drop n entry
-      go true some = absurd (false≢true (sym (zero-out-of-order least ds some) ∙ h))
+      go true some = absurd (false≢true (sym (differencesRise-zero least ds some) ∙ h))
       go false none = r .left ∙ rw (finds-none none, sums-are least ds none, ids-kept least ds h)

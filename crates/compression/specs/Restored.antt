@@ -21,9 +21,9 @@ idsBehind least [] = []
 idsBehind least (d ∷ ds) = (least + d - 1) ∷ idsBehind (least + d) ds
 
 -- question 6 of them: no difference is 0, and each id lies below TERMINATED
-unfoldable pub inOrder : ℕ → List ℕ → Bool
-inOrder least [] = true
-inOrder least (d ∷ ds) = and (and (leb 1 d) (leb (least + d) TERMINATED)) (inOrder (least + d) ds)
+unfoldable pub differencesRise : ℕ → List ℕ → Bool
+differencesRise least [] = true
+differencesRise least (d ∷ ds) = and (and (leb 1 d) (leb (least + d) TERMINATED)) (differencesRise (least + d) ds)
 
 -- the difference of a list's first id; 0, which is refused as well, where the id is too large
 unfoldable pub firstDifference : ℕ → ℕ
@@ -37,10 +37,10 @@ asDifferences least [] = []
 asDifferences zero (v ∷ vs) = firstDifference v ∷ vs
 asDifferences (suc least) (v ∷ vs) = v ∷ vs
 
--- question 6: the last id, 0 where there is none, if they are in order
+-- its answer: the last id, 0 where there is none; or that it is a no
 unfoldable pub risen : ℕ → List ℕ → Restored
-unfolding choose lastOf inOrder idsBehind
-risen least ds = choose (inOrder least ds) (λ _. Rising (lastOf 0 (idsBehind least ds))) (λ _. NotRising)
+unfolding choose lastOf differencesRise idsBehind
+risen least ds = choose (differencesRise least ds) (λ _. Rising (lastOf 0 (idsBehind least ds))) (λ _. NotRising)
 
 -- ---- in place
 

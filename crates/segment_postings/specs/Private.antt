@@ -84,10 +84,10 @@ pub record Lands (o : Outcome SegmentPostings) (docs freqs : List ℕ) (r : Reac
 -- ---- what the calls by value do on their cursor's arrays
 
 -- where a call on two arrays came to, with its answer; a refusal leaves the numbers as they were
-unfoldable pub answered : Term → (was : Held) → (docs freqs : List ℕ) → Reached → Went
+unfoldable pub withAnswer : Term → (was : Held) → (docs freqs : List ℕ) → Reached → Went
 unfolding answerAt
-answered t was docs freqs (reached-as.At held) = record { answer = answerAt t (cursorOf held docs freqs); held = held }
-answered t was docs freqs (reached-as.Refused n) = record { answer = Refused n; held = was }
+withAnswer t was docs freqs (reached-as.At held) = record { answer = answerAt t (cursorOf held docs freqs); held = held }
+withAnswer t was docs freqs (reached-as.Refused n) = record { answer = Refused n; held = was }
 
 -- the call that `go` makes: a step, or a seek to the target
 unfoldable pub callBy : Bool → (target : ℕ) → Call

@@ -15,7 +15,7 @@ use Rattle.format.specs.Model.{member}
 use Rattle.format.specs.Refusal.{docsNotRising, freqOutOfRange, numberBroken, bytesLeft}
 use Rattle.format.specs.Layout.{fullBlocks}
 use Rattle.format.specs.Reading.{Block, keptBy}
-use Rattle.compression.specs.Restored.{idsBehind, inOrder}
+use Rattle.compression.specs.Restored.{idsBehind, differencesRise}
 use Rattle.segment_postings.specs.declared.find.Found.{Found}
 use Rattle.segment_postings.specs.declared.load.Taken.{Taken}
 use Rattle.segment_postings.specs.Landing.{loadBlock}
@@ -68,7 +68,7 @@ unfoldable pub askedDocs : Taken → ℕ → List ℕ → Outcome (List ℕ)
 askedDocs k least docs =
     let ds : List ℕ = idsBehind least (take (k .n) docs) in
     ask (k .«docs_there») numberBroken λ _.
-    ask (and (inOrder least (take (k .n) docs)) (endsOn (k .full) (k .«last_doc») ds)) docsNotRising λ _. ok ds
+    ask (and (differencesRise least (take (k .n) docs)) (endsOn (k .full) (k .«last_doc») ds)) docsNotRising λ _. ok ds
 
 -- the block that they are the values of
 unfoldable pub asked : Taken → ℕ → List ℕ → List ℕ → Outcome Block

@@ -168,7 +168,7 @@ pub(crate) fn first_start(layout: Layout) -> Start
 }
 
 // Goes to a list's first document: questions 1 to 4, then entry 0, if any, and block 0.
-pub(crate) fn begin(
+pub(crate) fn land_first(
     image: &[u8],
     term: Term,
     docs: &mut [u32; 128],
@@ -191,7 +191,7 @@ pub fn open_in(image: &[u8], term: Term, docs: &mut [u32; 128], freqs: &mut [u32
 {
     let mut ids = [0; 128];
     let mut counts = [0; 128];
-    let opened = begin(image, term, &mut ids, &mut counts);
+    let opened = land_first(image, term, &mut ids, &mut counts);
     if let Reached::At(_) = opened {
         *docs = ids;
         *freqs = counts;

@@ -9,8 +9,8 @@ use crate::Value;
 use crate::core::advance_in;
 use crate::core::at_end;
 use crate::core::at_place;
-use crate::core::begin;
 use crate::core::in_bounds;
+use crate::core::land_first;
 use crate::core::leave_whole;
 use crate::core::shown_at;
 use crate::layout::full_blocks;
@@ -28,7 +28,7 @@ ghost use lib.ListN.{length};
 ghost use Rattle.segment_postings.specs.Cursor.{inBounds, within, behind, seeking, sought, seekingFresh, ranking};
 ghost use Rattle.segment_postings.specs.Called.{called};
 ghost use Rattle.segment_postings.specs.Calls.{cursorOf, Leaves, reached, Reaches, valued};
-ghost use Rattle.segment_postings.specs.Private.{answered, callBy};
+ghost use Rattle.segment_postings.specs.Private.{callBy, withAnswer};
 
 // Seeks in the held block. Values that fit no image may have no place for the target behind the present one: 16.
 fn seek_within(held: Held, term: Term, target: u32, docs: &[u32; 128]) -> Reached
@@ -111,7 +111,7 @@ pub(crate) struct Went {
 }
 
 // Where a call on lent arrays came to, with its answer; a refusal leaves the numbers as they were.
-pub(crate) fn answered(
+pub(crate) fn with_answer(
     reached: Reached,
     was: Held,
     term: Term,
@@ -119,7 +119,7 @@ pub(crate) fn answered(
     freqs: &[u32; 128],
 ) -> Went
     requires { ⌜ ((held : Held) → reached ≡ Reached.At held → held .place < 128) ⌝ }
-    ensures { λ r. ⌜ r ≡ answered term was (now (docs .entry)) (now (freqs .entry)) reached ⌝ }
+    ensures { λ r. ⌜ r ≡ withAnswer term was (now (docs .entry)) (now (freqs .entry)) reached ⌝ }
 {
     match reached {
         Reached::At(held) => {
@@ -151,7 +151,7 @@ pub(crate) fn go(
     } else {
         seek_in(held, image, term, target, docs, freqs)
     };
-    answered(reached, held, term, docs, freqs)
+    with_answer(reached, held, term, docs, freqs)
 }
 
 // Seeks to the first document, not before the present one, that is at least the target; if there is none, to the end.
@@ -183,7 +183,7 @@ pub(crate) fn seek_fresh(image: &[u8], term: Term, target: u32) -> Reached
 {
     let mut docs = [0; 128];
     let mut freqs = [0; 128];
-    match begin(image, term, &mut docs, &mut freqs) {
+    match land_first(image, term, &mut docs, &mut freqs) {
         Reached::At(first) => seek_in(first, image, term, target, &mut docs, &mut freqs),
         Reached::Refused(n) => Reached::Refused(n),
     }

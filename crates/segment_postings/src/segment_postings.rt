@@ -7,8 +7,8 @@ use crate::Value;
 use crate::core::at_end;
 use crate::core::in_bounds;
 use crate::core::open_in;
-use crate::seeks::answered;
 use crate::seeks::go;
+use crate::seeks::with_answer;
 use format::COMPRESSION_BLOCK_SIZE;
 use format::STATE_BROKEN;
 use format::TERMINATED;
@@ -43,7 +43,7 @@ pub fn open(image: &[u8], term: Term) -> Moved
     let mut docs = blank.docs;
     let mut freqs = blank.freqs;
     let reached = open_in(image, term, &mut docs, &mut freqs);
-    let went = answered(reached, blank.held, term, &docs, &freqs);
+    let went = with_answer(reached, blank.held, term, &docs, &freqs);
     let answer = went.answer;
     let held = went.held;
     Moved {

@@ -3,7 +3,7 @@
 -- `answer_at` answers of it what the call by value answers; one that was refused leaves the arrays, and the call by value is refused under the same number. So a
 -- list of these calls is a list of calls of the third promise (crate postings), which is about cursors.
 -- The contracts say each call's outcome as `Reaches`; an outcome with its answer is `moved`. One law over every outcome, and an instance
--- for each call. The calls by value are proved by it too: what `answered` makes of a call on their arrays is what they hand back.
+-- for each call. The calls by value are proved by it too: what `with_answer` makes of a call on their arrays is what they hand back.
 -- Assumes nothing.
 use mathlib.Core.List.{List}
 use mathlib.Core.Path.{_≡_, refl, sym}
@@ -19,7 +19,7 @@ use Rattle.segment_postings.specs.declared.seeks.Went.{Went}
 use Rattle.segment_postings.specs.Cursor.{moved, blank, opening, opened, stepping, advanced, seeking, sought}
 use Rattle.segment_postings.specs.Called.{SameCall}
 use Rattle.segment_postings.specs.Calls.{cursorOf, Leaves, Reaches}
-use Rattle.segment_postings.specs.Private.{answered}
+use Rattle.segment_postings.specs.Private.{withAnswer}
 use Rattle.segment_postings.proofs.Laws.LandingParts.{answering-at, reached-at, reached-nowhere, moved-at, moved-nowhere, opening-near}
 use Rattle.segment_postings.proofs.Laws.ReachedBounds.{stepping-near, seeking-near}
 
@@ -37,14 +37,14 @@ pub reached-near : {o : Outcome SegmentPostings} {docs freqs docs′ freqs′ : 
     → (held : Held) → r ≡ reached-as.At held → held .place < 128
 reached-near near k held e = near _ (reached-at k e)
 
--- the answer and the numbers that `answered` gives, with the arrays, are those of the call by value
-pub answered-leaves : {t : Term} {was : Held} {m : Moved} {docs freqs docs′ freqs′ : List ℕ} {r : Reached} {w : Went}
+-- the answer and the numbers that `with_answer` gives, with the arrays, are those of the call by value
+pub withAnswer-leaves : {t : Term} {was : Held} {m : Moved} {docs freqs docs′ freqs′ : List ℕ} {r : Reached} {w : Went}
     → SameCall t (cursorOf was docs freqs) m docs freqs docs′ freqs′ r → ((held : Held) → r ≡ reached-as.At held → held .place < 128)
-    → w ≡ answered t was docs′ freqs′ r → Leaves m (w .answer) (cursorOf (w .held) docs′ freqs′)
-unfolding answered
-answered-leaves {t} {docs′ = docs′} {freqs′ = freqs′} {r = reached-as.At held} s near e =
+    → w ≡ withAnswer t was docs′ freqs′ r → Leaves m (w .answer) (cursorOf (w .held) docs′ freqs′)
+unfolding withAnswer
+withAnswer-leaves {t} {docs′ = docs′} {freqs′ = freqs′} {r = reached-as.At held} s near e =
     rw (e, s .came refl, answering-at t (cursorOf held docs′ freqs′) (near held refl)) (refl, refl)
-answered-leaves {r = reached-as.Refused n} s near e = let k = s .stayed refl in rw (e, k .0, k .1, k .2) (refl, refl)
+withAnswer-leaves {r = reached-as.Refused n} s near e = let k = s .stayed refl in rw (e, k .0, k .1, k .2) (refl, refl)
 
 module _ (bs : List ℕ) (t : Term) {docs′ freqs′ : List ℕ} {r : Reached} where
   pub open-in-calls : {docs freqs : List ℕ} → Reaches (opening bs t) docs freqs docs′ freqs′ r → SameCall t blank (opened bs t) docs freqs docs′ freqs′ r

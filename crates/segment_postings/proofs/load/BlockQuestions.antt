@@ -33,7 +33,7 @@ use Rattle.format.proofs.Opened.{fullDocs-is, fullFreqs-unread, fullFreqs-read,
 use Rattle.format.proofs.Values.{length-restored}
 use Rattle.format.proofs.Vints.{numbers-used}
 use Rattle.bitpacking.specs.Packed.{withMore}
-use Rattle.compression.specs.Restored.{idsBehind, inOrder, firstDifference, asDifferences}
+use Rattle.compression.specs.Restored.{idsBehind, differencesRise, firstDifference, asDifferences}
 use Rattle.compression.proofs.Differences.{Differ, differ-strict, differ-plain}
 use Rattle.compression.proofs.Frequencies.{countable-kept, countable-wrapped, countable-nonzero}
 use Rattle.vint.specs.Numbers.{behind, filled}
@@ -56,13 +56,13 @@ pub asked-is : (k : Taken) (least : ℕ) (docs freqs : List ℕ)
     → asked k least docs freqs
     ≡ (let vs : List ℕ = take (k .n) docs in
     ask (k .«docs_there») numberBroken λ _.
-    ask (and (inOrder least vs) (endsOn (k .full) (k .«last_doc») (idsBehind least vs))) docsNotRising λ _.
+    ask (and (differencesRise least vs) (endsOn (k .full) (k .«last_doc») (idsBehind least vs))) docsNotRising λ _.
     andThen (askedFreqs k freqs) λ fs.
     ok (record { docs = idsBehind least vs; freqs = fs; last = k .«last_doc» }))
 unfolding asked askedDocs
 asked-is k least docs freqs =
     let vs : List ℕ = take (k .n) docs in
-    then-asked (k .«docs_there») (and (inOrder least vs) (endsOn (k .full) (k .«last_doc») (idsBehind least vs))) numberBroken docsNotRising
+    then-asked (k .«docs_there») (and (differencesRise least vs) (endsOn (k .full) (k .«last_doc») (idsBehind least vs))) numberBroken docsNotRising
     (idsBehind least vs)
     (λ ds. andThen (askedFreqs k freqs) λ fs. ok (record { docs = ds; freqs = fs; last = k .«last_doc» }))
 
@@ -77,15 +77,15 @@ module _ (k : Taken) (least : ℕ) (docs : List ℕ) where
   docs-broken h = rw h
 
   module _ (there : k .«docs_there» ≡ true) where
-    pub docs-fallen : inOrder least vs ≡ false → askedDocs k least docs ≡ refused docsNotRising
+    pub docs-fallen : differencesRise least vs ≡ false → askedDocs k least docs ≡ refused docsNotRising
     unfolding askedDocs ask
     docs-fallen h = rw (there, h)
 
     pub docs-end-wrong : endsOn (k .full) (k .«last_doc») (idsBehind least vs) ≡ false → askedDocs k least docs ≡ refused docsNotRising
     unfolding askedDocs ask
-    docs-end-wrong h = rw (there, h, and-false (inOrder least vs))
+    docs-end-wrong h = rw (there, h, and-false (differencesRise least vs))
 
-    pub docs-right : inOrder least vs ≡ true → endsOn (k .full) (k .«last_doc») (idsBehind least vs) ≡ true
+    pub docs-right : differencesRise least vs ≡ true → endsOn (k .full) (k .«last_doc») (idsBehind least vs) ≡ true
         → askedDocs k least docs ≡ ok (idsBehind least vs)
     unfolding askedDocs ask
     docs-right rises ends = rw (there, rises, ends)
@@ -128,13 +128,13 @@ askedFreqs-unread k freqs there ones = rw (there, ones, ones-nonzero (k .n))
 
 -- ids by their differences: question 6 and what follows it
 docs-same : {B : Type 0} {strict : Bool} {least : ℕ} {vs ds : List ℕ} → Differ strict least vs ds → (full : Bool) (last n : ℕ) (g : List ℕ → Outcome B)
-    → (ask (and (inOrder least ds) (endsOn full last (idsBehind least ds))) n λ _. g (idsBehind least ds))
+    → (ask (and (differencesRise least ds) (endsOn full last (idsBehind least ds))) n λ _. g (idsBehind least ds))
     ≡ (ask (and (rising least (ids strict least vs)) (endsOn full last (ids strict least vs))) n λ _. g (ids strict least vs))
 unfolding ask
-docs-same {B} {strict} {least} {vs} {ds} d full last n g = go (inOrder least ds) refl
+docs-same {B} {strict} {least} {vs} {ds} d full last n g = go (differencesRise least ds) refl
   where
-    go : (t : Bool) → inOrder least ds ≡ t
-        → (ask (and (inOrder least ds) (endsOn full last (idsBehind least ds))) n λ _. g (idsBehind least ds))
+    go : (t : Bool) → differencesRise least ds ≡ t
+        → (ask (and (differencesRise least ds) (endsOn full last (idsBehind least ds))) n λ _. g (idsBehind least ds))
         ≡ (ask (and (rising least (ids strict least vs)) (endsOn full last (ids strict least vs))) n λ _. g (ids strict least vs))
     go true e = rw (d .same e, ← d .question)
     go false e = rw (← d .question, e)

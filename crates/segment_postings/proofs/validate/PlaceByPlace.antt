@@ -15,7 +15,7 @@ use borrow.Author.Tests.{eqb-true, le-leb, lt-leb, ne-eqb}
 use Rattle.format.specs.Basics.{choose, lastOf, TERMINATED}
 use Rattle.format.specs.Model.{member}
 use Rattle.format.proofs.Choice.{choose-elim}
-use Rattle.compression.specs.Restored.{idsBehind, inOrder}
+use Rattle.compression.specs.Restored.{idsBehind, differencesRise}
 use Rattle.compression.proofs.Differences.{last-any}
 use Rattle.segment_postings.specs.declared.load.Taken.{Taken}
 use Rattle.segment_postings.specs.Taken.{endsOn, endsBefore, freqsToAsk}
@@ -24,7 +24,7 @@ use Rattle.segment_postings.specs.Taken.{endsOn, endsBefore, freqsToAsk}
 
 -- what is known of differences once all but `rest` are in order
 pub record Ordered (least₀ least : ℕ) (vs rest : List ℕ) : Type 0 where
-  pub same : inOrder least₀ vs ≡ inOrder least rest
+  pub same : differencesRise least₀ vs ≡ differencesRise least rest
   pub last : 0 < length vs → lastOf 0 (idsBehind least₀ vs) ≡ lastOf (least - 1) (idsBehind least rest)
 
 pub ordered-none : (least : ℕ) (vs : List ℕ) → Ordered least least vs vs
@@ -33,16 +33,16 @@ ordered-none least vs = record { same = refl; last = last-any 0 (least - 1) leas
 -- a difference more, which is or isn't in order
 module _ (least₀ least d : ℕ) (vs rest : List ℕ) (o : Ordered least₀ least vs (d ∷ rest)) where
   pub ordered-next : 0 < d → least + d ≤ TERMINATED → Ordered least₀ (least + d) vs rest
-  unfolding inOrder idsBehind lastOf
+  unfolding differencesRise idsBehind lastOf
   ordered-next some few =
       record { same = o .same ∙ rw (le-leb 1 d some, le-leb (least + d) TERMINATED few); last = o .last }
 
-  pub ordered-same : d ≡ 0 → inOrder least₀ vs ≡ false
-  unfolding inOrder
+  pub ordered-same : d ≡ 0 → differencesRise least₀ vs ≡ false
+  unfolding differencesRise
   ordered-same none = o .same ∙ rw none
 
-  pub ordered-over : TERMINATED < least + d → inOrder least₀ vs ≡ false
-  unfolding inOrder
+  pub ordered-over : TERMINATED < least + d → differencesRise least₀ vs ≡ false
+  unfolding differencesRise
   ordered-over many = o .same ∙ rw (lt-leb (least + d) TERMINATED many, and-false (leb 1 d))
 
 one-before : (m n : ℕ) → 0 < m → eqb (m - 1) n ≡ eqb m (n + 1)
@@ -51,8 +51,8 @@ one-before (suc m) n h = let less : suc m - 1 ≡ m = omega arith in rw (less, a
 
 -- none is left
 module _ (least₀ least : ℕ) (vs : List ℕ) (o : Ordered least₀ least vs []) where
-  pub ordered-all : inOrder least₀ vs ≡ true
-  unfolding inOrder
+  pub ordered-all : differencesRise least₀ vs ≡ true
+  unfolding differencesRise
   ordered-all = o .same
 
   -- the last id of a full block, by the least that may come behind it

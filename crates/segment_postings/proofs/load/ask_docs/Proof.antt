@@ -14,7 +14,7 @@ use borrow.Author.Needs.{needs}
 use borrow.Author.Tests.{not-true, not-false}
 use Rattle.format.specs.Basics.{choose, lastOf}
 use Rattle.compression.specs.declared.values.Restored.the-variants.{Rising, NotRising}
-use Rattle.compression.specs.Restored.{idsBehind, inOrder, risen, DocsRestored}
+use Rattle.compression.specs.Restored.{idsBehind, differencesRise, risen, DocsRestored}
 use Rattle.compression.proofs.Differences.{restored-answers, restored-ids}
 use Rattle.segment_postings.specs.declared.load.Taken.{Taken}
 use Rattle.segment_postings.specs.Taken.{endsOn, outcome, DocsAsked}
@@ -34,7 +34,7 @@ module _ (k : Taken) (least : ℕ) (docs docs′ : List ℕ) where
   broken h = record { answer = docs-broken k least docs h; left = λ z. absurd (omega arith) }
 
   module _ (there : k .«docs_there» ≡ true) where
-    fallen : inOrder least vs ≡ false → DocsAsked k least docs docs′ 6
+    fallen : differencesRise least vs ≡ false → DocsAsked k least docs docs′ 6
     unfolding outcome
     fallen h = record { answer = docs-fallen k least docs there h; left = λ z. absurd (omega arith) }
 
@@ -43,7 +43,7 @@ module _ (k : Taken) (least : ℕ) (docs docs′ : List ℕ) where
     unfolding endsOn outcome
     ended-wrong l f h = record { answer = docs-end-wrong k least docs there (rw (f, ← l, h)); left = λ z. absurd (omega arith) }
 
-    module _ (rises : inOrder least vs ≡ true) (left : docs′ ≡ ds ++ drop (k .n) docs) where
+    module _ (rises : differencesRise least vs ≡ true) (left : docs′ ≡ ds ++ drop (k .n) docs) where
       right : endsOn (k .full) (k .«last_doc») ds ≡ true → DocsAsked k least docs docs′ 0
       unfolding outcome
       right h = record { answer = docs-right k least docs there rises h; left = λ z. left }
@@ -58,17 +58,17 @@ module _ (k : Taken) (least : ℕ) (docs docs′ : List ℕ) where
 
 -- what `restore_docs` says of ids
 module _ (least : ℕ) (vs : List ℕ) where
-  not-rising : NotRising ≡ risen least vs → inOrder least vs ≡ false
+  not-rising : NotRising ≡ risen least vs → differencesRise least vs ≡ false
   unfolding risen choose
-  not-rising e = go (inOrder least vs) e
+  not-rising e = go (differencesRise least vs) e
     where
       go : (t : Bool) → NotRising ≡ choose t (λ _. Rising (lastOf 0 (idsBehind least vs))) (λ _. NotRising) → t ≡ false
       go true e = absurd (let z : _≡_ {A = ℕ} 0 1 = cc in omega arith)
       go false e = refl
 
-  is-rising : {last : ℕ} → Rising last ≡ risen least vs → (inOrder least vs ≡ true) × (last ≡ lastOf 0 (idsBehind least vs))
+  is-rising : {last : ℕ} → Rising last ≡ risen least vs → (differencesRise least vs ≡ true) × (last ≡ lastOf 0 (idsBehind least vs))
   unfolding risen choose
-  is-rising {last} e = go (inOrder least vs) e
+  is-rising {last} e = go (differencesRise least vs) e
     where
       go : (t : Bool) → Rising last ≡ choose t (λ _. Rising (lastOf 0 (idsBehind least vs))) (λ _. NotRising)
           → (t ≡ true) × (last ≡ lastOf 0 (idsBehind least vs))
@@ -106,7 +106,7 @@ module _ (c : tie.After-known-told) where
   restored = c .before .before .before .restore-docs .ensures
 
   rises : let vs = take (start .args .taken .n) (now (start .args .docs)) in
-      (inOrder (start .args .least) vs ≡ true) × (c .before .last .given .0 .0 ≡ lastOf 0 (idsBehind (start .args .least) vs))
+      (differencesRise (start .args .least) vs ≡ true) × (c .before .last .given .0 .0 ≡ lastOf 0 (idsBehind (start .args .least) vs))
   rises = is-rising _ _ (sym (c .before .last .given .1) ∙ restored-answers restored (start .pre))
 
 returns-3 : tie.Need-returns-3

@@ -1,5 +1,5 @@
 -- `segment_postings::seeks::go` meets its contract: on either way the call on the arrays is the call by value that the definition names, and
--- `answered` gives its answer and its numbers.
+-- `with_answer` gives its answer and its numbers.
 -- Assumes nothing.
 use mathlib.Core.Bool.{Bool, true, false}
 use mathlib.Core.List.{List}
@@ -16,7 +16,7 @@ use Rattle.segment_postings.specs.Cursor.{stepping, seeking}
 use Rattle.segment_postings.specs.Called.{called, SameCall}
 use Rattle.segment_postings.specs.Calls.{cursorOf, Reaches}
 use Rattle.segment_postings.specs.Private.{callBy}
-use Rattle.segment_postings.proofs.Laws.CallsByValue.{advance-in-calls, seek-in-calls, answered-leaves, reached-near}
+use Rattle.segment_postings.proofs.Laws.CallsByValue.{advance-in-calls, seek-in-calls, withAnswer-leaves, reached-near}
 use Rattle.segment_postings.proofs.Laws.ReachedBounds.{stepping-near, seeking-near}
 use Rattle.segment_postings.proofs.seeks.go.Statement.{statement}
 use Rattle.segment_postings.proofs.seeks.go.Tie as tie
@@ -57,11 +57,11 @@ module _ (c : tie.Joined1) where
       (λ w. seeks _ _ _ _ (w .4) (w .5) (w .6) (w .0 .left) (w .3 .ensures))
       (c .if1 .came)
 
-answered-requires : tie.Need-answered-requires
-answered-requires c κs = near (c .before .before)
+with-answer-requires : tie.Need-with-answer-requires
+with-answer-requires c κs = near (c .before .before)
 
 returns : tie.Need-returns
-returns c = let j = c .before .before .before in answered-leaves (same j) (near j) (c .answered .ensures)
+returns c = let j = c .before .before .before in withAnswer-leaves (same j) (near j) (c .with-answer .ensures)
 
 pub go-spec : {M : Type 1} → statement M
-go-spec = tie.close (tie.spec advance-in-requires seek-in-requires answered-requires returns)
+go-spec = tie.close (tie.spec advance-in-requires seek-in-requires with-answer-requires returns)

@@ -3,7 +3,7 @@
 -- Assumes nothing.
 use borrow.Author.Needs.{needs}
 use Rattle.segment_postings.proofs.Laws.LandingParts.{opening-near}
-use Rattle.segment_postings.proofs.Laws.CallsByValue.{open-in-calls, answered-leaves, reached-near}
+use Rattle.segment_postings.proofs.Laws.CallsByValue.{open-in-calls, withAnswer-leaves, reached-near}
 use Rattle.segment_postings.proofs.segment_postings.open.Statement.{statement}
 use Rattle.segment_postings.proofs.segment_postings.open.Tie as tie
 
@@ -13,16 +13,16 @@ blank-requires c κs = search needs
 open-in-requires : tie.Need-open-in-requires
 open-in-requires c κs = search needs
 
-answered-requires : tie.Need-answered-requires
-answered-requires c κs = reached-near (λ _. opening-near _ _) (c .before .before .open-in .ensures)
+with-answer-requires : tie.Need-with-answer-requires
+with-answer-requires c κs = reached-near (λ _. opening-near _ _) (c .before .before .open-in .ensures)
 
 returns : tie.Need-returns
 returns c =
     let o = c .before .before .before .before in
     let blank = o .before .before .before .before .before .blank .ensures in
     let same = open-in-calls _ _ (rw blank at (o .open-in .ensures)) in
-    let k = answered-leaves same (reached-near (λ _. opening-near _ _) (o .open-in .ensures)) (rw blank at (c .before .answered .ensures)) in
+    let k = withAnswer-leaves same (reached-near (λ _. opening-near _ _) (o .open-in .ensures)) (rw blank at (c .before .with-answer .ensures)) in
     rw (k .0, k .1)
 
 pub open-spec : {M : Type 1} → statement M
-open-spec = tie.close (tie.spec blank-requires open-in-requires answered-requires returns)
+open-spec = tie.close (tie.spec blank-requires open-in-requires with-answer-requires returns)

@@ -1,11 +1,11 @@
--- `segment_postings::core::begin` meets its contract: opening is a landing from block 0 on, once questions 1 to 4 are answered.
+-- `segment_postings::core::land_first` meets its contract: opening is a landing from block 0 on, once questions 1 to 4 are answered.
 -- Assumes nothing.
 use mathlib.Core.Path.{sym, _∙_}
 use native.Mathlib.Omega.{arith}
 use Rattle.segment_postings.proofs.Laws.LandingParts.{laid-at, laid-refused, lands-as, none-lands, opening-laid, opening-refused, opens-from}
 use borrow.Author.Needs.{needs}
-use Rattle.segment_postings.proofs.core.begin.Statement.{statement}
-use Rattle.segment_postings.proofs.core.begin.Tie as tie
+use Rattle.segment_postings.proofs.core.land_first.Statement.{statement}
+use Rattle.segment_postings.proofs.core.land_first.Tie as tie
 
 lay-out-requires : tie.Need-lay-out-requires
 lay-out-requires c κs = search needs
@@ -37,7 +37,7 @@ returns-2 : tie.Need-returns-2
 returns-2 c =
     none-lands _ _ (opening-refused _ _ (laid-refused _ (sym (c .before .before .before .lay-out .ensures) ∙ c .before .n .given .1)))
 
-pub begin-spec : {M : Type 1} → statement M
-begin-spec =
+pub land-first-spec : {M : Type 1} → statement M
+land-first-spec =
     tie.close
     (tie.spec lay-out-requires enum-known-layout first-start-requires land-requires enum-known-n returns returns-2)
