@@ -1,7 +1,7 @@
 -- When a packed block has room, as the code tests it, and the two outcomes of packing and unpacking.
 -- Assumes nothing.
 use mathlib.Core.Path.{_≡_, refl, sym, ap, _∙_}
-use mathlib.Core.Bool.{Bool, true, false, _&&_ as and}
+use mathlib.Core.Bool.{true, false, and-eq-true-iff}
 use mathlib.Core.List.{List, _++_, map}
 use Prim.Native.Nat.{ℕ, _*_, _≤_, _<_}
 use borrow.Author.Tests.{leb-true, lt-leb, le-leb}
@@ -21,14 +21,10 @@ pub narrow : (w n : ℕ) → w ≤ 32 → roomFor w n ≡ leb (16 * w) n
 unfolding roomFor
 narrow w n h = rw (le-leb w 32 h)
 
-both : (a b : Bool) → and a b ≡ true → (a ≡ true) × (b ≡ true)
-both true b e = (refl, e)
-both false b e = (e, absurd (mathlib.Core.Bool.false≢true e))
-
 -- what room says
 pub room-there : (w n : ℕ) → roomFor w n ≡ true → (w ≤ 32) × (16 * w ≤ n)
 unfolding roomFor
-room-there w n e = let p = both (leb w 32) (leb (16 * w) n) e in (leb-true _ _ (p .0), leb-true _ _ (p .1))
+room-there w n e = let p = and-eq-true-iff (leb w 32) (leb (16 * w) n) .0 e in (leb-true _ _ (p .0), leb-true _ _ (p .1))
 
 pub not-unpacked : (w more : ℕ) (bytes values : List ℕ) → roomFor w (length bytes) ≡ false → Unpacked w more bytes values values false
 unfolding choose

@@ -1,9 +1,13 @@
--- Shifts, `|` and masks on 32-bit words, as sums, quotients and remainders.
---     lowest        the lowest of some bits
---     upper         .. and those above them
---     masked-shift  a value put above other bits
---     joined        a value of two parts, put together by a shift, `|` and a mask
---     mask-ones     the mask of w ones
+-- Shifts, `|` and masks as sums, quotients and remainders.
+--     lowest         the lowest of some bits
+--     upper          .. and those above them
+-- .. on words of 32 bits
+--     joined         a value of two parts, put together by a shift, `|` and a mask
+--     mask-ones      the mask of w ones
+-- .. on words of 64 bits
+--     shifted-below  a value of 32 bits, shifted, has room
+--     masked-shift   a value put above other bits
+--     one-shifted    one more than the mask of w ones
 -- Assumes nothing.
 use mathlib.Core.Path.{_≡_, sym, ap, _∙_}
 use Prim.Native.Nat.{ℕ, _+_, _-_, _*_, _/_, _%_, _^_, _≤_, _<_}
@@ -46,7 +50,7 @@ joined w bits low up hw hb h =
     sum : bitOr low (x % 2 ^ 32) ≡ x % 2 ^ 32 + low
     sum = rw kept (or-shifted-r (up % 2 ^ (32 - bits)) bits low h)
 
--- w ones, by a shift of 32
+-- w ones, left of 32 ones by a shift
 pub mask-ones : (v w : ℕ) → v + w ≡ 32 → 4294967295 / 2 ^ v ≡ 2 ^ w - 1
 mask-ones v w e =
     ap (λ (n : ℕ). (2 ^ n - 1) / 2 ^ v) (sym e ∙ add-comm v w)
@@ -62,6 +66,6 @@ pub masked-shift : (v w k : ℕ) → v < 2 ^ 32 → k < 32 → bitAnd v (2 ^ w -
 masked-shift v w k hv hk =
     rw (and-mask v w) (mod-eq-of-lt (lt-trans (shifted-below (v % 2 ^ w) k (lt-of-le-of-lt (mod-le v (2 ^ w)) hv) hk) (lit< tt)))
 
--- w ones, by a shift of 1
+-- a 1 with w zeros behind it; one less is w ones
 pub one-shifted : (w : ℕ) → w ≤ 32 → 1 * 2 ^ w % 2 ^ 64 ≡ 2 ^ w
 one-shifted w h = rw (one-mul (2 ^ w)) (mod-eq-of-lt (pow-lt {i = w} {j = 64} (omega arith)))

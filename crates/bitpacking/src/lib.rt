@@ -21,13 +21,13 @@ fn word_at(bytes: &[u8], p: usize) -> u32
 
 // What is left of the words read last, one of each lane: the lanes' next bits, the same number of each. The words behind them lie
 // side by side from byte `at` on.
-pub struct Left {
-    pub a: u32,
-    pub b: u32,
-    pub c: u32,
-    pub d: u32,
-    pub bits: u32,
-    pub at: usize,
+struct Left {
+    a: u32,
+    b: u32,
+    c: u32,
+    d: u32,
+    bits: u32,
+    at: usize,
 }
 
 // The words from byte p on, nothing taken of them.
@@ -84,11 +84,18 @@ fn value_across(rest: u32, word: u32, bits: u32, mask: u32) -> u32
     (rest | (word << bits)) & mask
 }
 
+// The low 32 bits.
+fn low(x: u64) -> u32
+    ensures { λ r. ⌜ r ≡ x % 2 ^ 32 ⌝ }
+{
+    (x % 4294967296) as u32
+}
+
 // A value with `more` added, modulo 2 ^ 32.
 fn with_more(value: u32, more: u32) -> u32
     ensures { λ r. ⌜ r ≡ withMore more value ⌝ }
 {
-    ((value as u64 + more as u64) % 4294967296) as u32
+    low(value as u64 + more as u64)
 }
 
 // Four values side by side from place p on, `more` added to each.
@@ -202,22 +209,15 @@ fn put_word(area: &mut [u8], p: usize, x: u32)
     area[p + 3] = bytes[3];
 }
 
-// The low 32 bits.
-fn low(x: u64) -> u32
-    ensures { λ r. ⌜ r ≡ x % 2 ^ 32 ⌝ }
-{
-    (x % 4294967296) as u32
-}
-
 // What is packed so far of the four lanes and not yet written: the same number of bits of each, less than a word, above as many
 // words already in the area.
-pub struct Lanes {
-    pub a: u64,
-    pub b: u64,
-    pub c: u64,
-    pub d: u64,
-    pub bits: usize,
-    pub words: usize,
+struct Lanes {
+    a: u64,
+    b: u64,
+    c: u64,
+    d: u64,
+    bits: usize,
+    words: usize,
 }
 
 // A value's low bits, as many as the mask has ones, above the `bits` that a lane holds.
