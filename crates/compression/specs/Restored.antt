@@ -71,8 +71,8 @@ unfoldable pub foundZero : Bool → List ℕ → Bool
 unfolding member
 foundZero nonzero ds = and (not nonzero) (member 0 ds)
 
--- `restore_docs`: where a 0 is found nothing is written. Else the sums are, whatever they come to; the last of them answers. Where no
--- difference is 0 that the caller ruled out, the answer is `risen`, and the sums in order are the ids (proofs/Differences.antt)
+-- `restore_docs`: where a 0 is found nothing is written. Else the sums are, whatever they come to; the last of them answers. Where the
+-- caller ruled out a 0 only if there is none, the answer is `risen`; and where that is a yes the sums are the ids (proofs/Differences.antt)
 pub record DocsRestored (least n : ℕ) (nonzero : Bool) (entry exit : List ℕ) (answer : Restored) : Type 0 where
   pub answered : answer ≡ choose (foundZero nonzero (take n entry)) (λ _. NotRising) (λ _. ending (lastOf 0 (sumsBehind least (take n entry))))
   pub left : exit ≡ choose (foundZero nonzero (take n entry)) (λ _. entry) (λ _. inPlace n (sumsBehind least (take n entry)) entry)

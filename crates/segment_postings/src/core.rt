@@ -1,5 +1,5 @@
 // The cursor on two lent arrays: opening, leaving a block and a step, with the cursor's numbers by value. Calls on a whole cursor
-// take it apart, lend its arrays and put it together again; loops over many calls use these functions and copy no array.
+// take it apart, lend its arrays and put it together again; loops over many calls use these functions and copy no cursor.
 
 use crate::Answer;
 use crate::Held;

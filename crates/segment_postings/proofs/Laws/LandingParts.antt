@@ -1,4 +1,6 @@
--- A landing in two parts: the block that is found, and what it holds. Each is an answer of a function that was lent the two arrays.
+-- A landing in two parts: the block that is found, and what it holds. A call on arrays that its caller may lose tells of them only where it
+-- came somewhere (`Lands`); storing two arrays of one's own just there leaves the caller's in a refusal (`stored-reached`, `left-reached`).
+-- Besides: the cases of opening, of leaving a block and of a step, and what an answer tells of its outcome.
 -- Assumes nothing.
 use mathlib.Core.Path.{_≡_, refl, sym, ap, subst, _∙_}
 use mathlib.Core.List.{List}

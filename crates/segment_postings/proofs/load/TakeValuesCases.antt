@@ -1,7 +1,7 @@
 -- What was taken of a block meets the contract of `take_values`, case by case: a full block with its frequencies or without; a tail
 -- whose ids aren't all there, one that has no frequencies, one whose frequencies aren't wanted, one whose frequencies aren't all
--- there, and one that was taken whole. That no value is 0 where the strict form and
--- the width rule it out is BlockQuestions.antt `strict-nonzero`.
+-- there, and one that was taken whole. That no value is 0 where form and width rule it out: BlockQuestions.antt `more-small` (below 2 ^ 31
+-- what is added doesn't wrap) and `strict-nonzero`.
 -- Assumes nothing.
 use mathlib.Core.Path.{_≡_, refl, sym, ap, _∙_}
 use mathlib.Core.Bool.{Bool, true, false, false≢true, _&&_ as and}

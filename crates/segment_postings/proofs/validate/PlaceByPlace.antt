@@ -69,33 +69,33 @@ ends-full full last least f h = eqb-true _ _ (rw f at h)
 -- ---- frequencies
 
 -- one of all that were taken is 0 where one of those still to come is
-pub record Counted (k : Taken) (freqs rest : List ℕ) : Type 0 where
+pub record ZeroToCome (k : Taken) (freqs rest : List ℕ) : Type 0 where
   pub same : member 0 (take (k .n) freqs) ≡ member 0 rest
 
 pub freqsToAsk-most : (k : Taken) → freqsToAsk k ≤ k .n
 unfolding freqsToAsk
 freqsToAsk-most k = choose-elim (λ n. n ≤ k .n) (k .«freqs_nonzero») _ _ (λ _. zero-le) (λ _. le-refl _)
 
-pub counted-none : (k : Taken) (freqs : List ℕ) → (k .«freqs_nonzero» ≡ true → member 0 (take (k .n) freqs) ≡ false)
-    → Counted k freqs (take (freqsToAsk k) freqs)
+pub to-come-first : (k : Taken) (freqs : List ℕ) → (k .«freqs_nonzero» ≡ true → member 0 (take (k .n) freqs) ≡ false)
+    → ZeroToCome k freqs (take (freqsToAsk k) freqs)
 unfolding freqsToAsk choose member
-counted-none k freqs known = record { same = go (k .«freqs_nonzero») refl }
+to-come-first k freqs known = record { same = go (k .«freqs_nonzero») refl }
   where
     go : (t : Bool) → k .«freqs_nonzero» ≡ t → member 0 (take (k .n) freqs) ≡ member 0 (take (choose t (λ _. 0) (λ _. k .n)) freqs)
     go true e = known e
     go false e = refl
 
 -- a frequency more, which is or isn't 0
-module _ (k : Taken) (freqs : List ℕ) (f : ℕ) (rest : List ℕ) (c : Counted k freqs (f ∷ rest)) where
-  pub counted-next : (f ≡ 0 → ⊥) → Counted k freqs rest
+module _ (k : Taken) (freqs : List ℕ) (f : ℕ) (rest : List ℕ) (c : ZeroToCome k freqs (f ∷ rest)) where
+  pub to-come-next : (f ≡ 0 → ⊥) → ZeroToCome k freqs rest
   unfolding member
-  counted-next some = record { same = c .same ∙ rw (ne-eqb 0 f (λ e. some (sym e))) }
+  to-come-next some = record { same = c .same ∙ rw (ne-eqb 0 f (λ e. some (sym e))) }
 
-  pub counted-never : f ≡ 0 → member 0 (take (k .n) freqs) ≡ true
+  pub to-come-zero : f ≡ 0 → member 0 (take (k .n) freqs) ≡ true
   unfolding member
-  counted-never none = c .same ∙ rw none
+  to-come-zero none = c .same ∙ rw none
 
 -- none is left
-pub counted-all : (k : Taken) (freqs : List ℕ) → Counted k freqs [] → member 0 (take (k .n) freqs) ≡ false
+pub to-come-none : (k : Taken) (freqs : List ℕ) → ZeroToCome k freqs [] → member 0 (take (k .n) freqs) ≡ false
 unfolding member
-counted-all k freqs c = c .same
+to-come-none k freqs c = c .same

@@ -35,7 +35,7 @@ use Rattle.segment_postings.proofs.Laws.LandingParts.{searched-to, sear
 use Rattle.segment_postings.proofs.layout.SplitParts.{laid-out}
 use Rattle.segment_postings.proofs.find.FoundBlock.{found-there}
 use Rattle.segment_postings.proofs.validate.PlaceByPlace.{Ordered, ordered-none, ordered-next, ordered-same, ordered-over, ordered-all, ordered-ends, ends-full}
-use Rattle.segment_postings.proofs.validate.PlaceByPlace.{Counted, freqsToAsk-most, counted-none, counted-next, counted-never, counted-all}
+use Rattle.segment_postings.proofs.validate.PlaceByPlace.{ZeroToCome, freqsToAsk-most, to-come-first, to-come-next, to-come-zero, to-come-none}
 use Rattle.segment_postings.proofs.load.BlockQuestions.{docs-broken, docs-fallen, docs-end-wrong, docs-right, freqs-broken, freqs-wrong, freqs-not-last, freqs-right}
 use Rattle.segment_postings.proofs.Admission.WalkReads.{walking, walking-from, readingAt, loadedAt-none, found-same, full-within}
 use Rattle.segment_postings.proofs.Admission.WalkReads.{reading-whole, reading-stops, stops-at-docs, stops-at-freqs, goes-on, ends-at-tail}
@@ -50,7 +50,7 @@ abbrev μ-ids : tie.MeasureT-ids
 μ-ids image term layout docs freqs block at least₀ found taken i₀ i-end least i = i-end - i
 
 abbrev Inv-counts : tie.InvT-counts
-Inv-counts image term layout docs freqs block at least found taken i₀ i-end i = (i ≤ i-end) × Counted taken freqs (slice i i-end freqs)
+Inv-counts image term layout docs freqs block at least found taken i₀ i-end i = (i ≤ i-end) × ZeroToCome taken freqs (slice i i-end freqs)
 
 abbrev μ-counts : tie.MeasureT-counts
 μ-counts image term layout docs freqs block at least found taken i₀ i-end i = i-end - i
@@ -216,9 +216,9 @@ module _ (c : tie.In-counts Inv-ids μ-ids Inv-counts μ-counts Inv-blocks2 μ-b
   abbrev freqs-at : tie.After-take-values Inv-ids μ-ids Inv-counts μ-counts Inv-blocks2 μ-blocks2
   freqs-at = right-of (sized .before .before .before)
 
-  counted : Counted (k freqs-at) (freqs freqs-at)
+  to-come : ZeroToCome (k freqs-at) (freqs freqs-at)
       (getD (freqs freqs-at) (c .before .counts .i) 0 ∷ slice (c .before .counts .i + 1) (sized .freqs-to-ask .result) (freqs freqs-at))
-  counted =
+  to-come =
       let i : ℕ = c .before .counts .i in
       let m : ℕ = sized .freqs-to-ask .result in
       let first : slice i m (freqs freqs-at) ≡ getD (freqs freqs-at) i 0 ∷ slice (i + 1) m (freqs freqs-at)
@@ -233,10 +233,10 @@ module _ (c : tie.After-counts Inv-ids μ-ids Inv-counts μ-counts Inv-blocks2 �
   abbrev whole-of : tie.After-take-values Inv-ids μ-ids Inv-counts μ-counts Inv-blocks2 μ-blocks2
   whole-of = right-of (behind-freqs .before .before .before)
 
-  all-counted : member 0 (take (k whole-of .n) (freqs whole-of)) ≡ false
-  all-counted =
+  none-zero : member 0 (take (k whole-of .n) (freqs whole-of)) ≡ false
+  none-zero =
       let last : c .before .counts .i ≡ behind-freqs .freqs-to-ask .result = omega arith in
-      counted-all (k whole-of) (freqs whole-of)
+      to-come-none (k whole-of) (freqs whole-of)
       (rw (last, slice-empty (behind-freqs .freqs-to-ask .result) (freqs whole-of)) at (c .before .counts .inv .1))
 
 -- .. and every question was answered yes
@@ -251,7 +251,7 @@ module _ (c : tie.Else7 Inv-ids μ-ids Inv-counts μ-counts Inv-blocks2 μ-block
   done = right-of docs-of
 
   freqs-passed : askedFreqs (k done) (freqs done) ≡ ok (take (k done .n) (freqs done))
-  freqs-passed = freqs-right _ _ (freqs-there (behind-freqs passed-freqs)) (all-counted passed-freqs) (not-false _ (c .if7 .left))
+  freqs-passed = freqs-right _ _ (freqs-there (behind-freqs passed-freqs)) (none-zero passed-freqs) (not-false _ (c .if7 .left))
 
 -- .. of a full block: what the next one is found by
 module _ (c : tie.Else8 Inv-ids μ-ids Inv-counts μ-counts Inv-blocks2 μ-blocks2) where
@@ -343,7 +343,7 @@ freqs-to-ask-requires c κs = tt
 
 counts-holds : tie.Need-counts-holds Inv-ids μ-ids Inv-counts μ-counts Inv-blocks2 μ-blocks2
 counts-holds c =
-    (zero-le, rw (c .freqs-to-ask .ensures) (counted-none _ _ (taken (right-of (c .before .before .before)) .freqs-nonzero)))
+    (zero-le, rw (c .freqs-to-ask .ensures) (to-come-first _ _ (taken (right-of (c .before .before .before)) .freqs-nonzero)))
 
 mul-if6 : tie.Need-mul-if6 Inv-ids μ-ids Inv-counts μ-counts Inv-blocks2 μ-blocks2
 mul-if6 c = omega (arith, within (c .before .before))
@@ -358,7 +358,7 @@ counts-less : tie.Need-counts-less Inv-ids μ-ids Inv-counts μ-counts Inv-block
 counts-less c = omega arith
 
 counts-again : tie.Need-counts-again Inv-ids μ-ids Inv-counts μ-counts Inv-blocks2 μ-blocks2
-counts-again c = (omega arith, counted-next _ _ _ _ (counted (c .before)) (c .if6 .left))
+counts-again c = (omega arith, to-come-next _ _ _ _ (to-come (c .before)) (c .if6 .left))
 
 block-size-requires :
     tie.Need-block-size-requires Inv-ids μ-ids Inv-counts μ-counts Inv-blocks2 μ-blocks2
@@ -413,13 +413,13 @@ returns-5 c = stops-behind (c .before .before) (freqs-broken _ _ (not-true _ (c 
 returns-6 : tie.Need-returns-6 Inv-ids μ-ids Inv-counts μ-counts Inv-blocks2 μ-blocks2
 returns-6 c =
     let turn = c .before in
-    stops-behind (sized turn .before .before .before) (freqs-wrong _ _ (freqs-there (sized turn)) (counted-never _ _ _ _ (counted turn) (c .if6 .taken)))
+    stops-behind (sized turn .before .before .before) (freqs-wrong _ _ (freqs-there (sized turn)) (to-come-zero _ _ _ _ (to-come turn) (c .if6 .taken)))
 
 returns-7 : tie.Need-returns-7 Inv-ids μ-ids Inv-counts μ-counts Inv-blocks2 μ-blocks2
 returns-7 c =
     let passed = c .before .before in
     let sized = behind-freqs passed in
-    stops-behind (sized .before .before .before) (freqs-not-last _ _ (freqs-there sized) (all-counted passed) (not-true _ (c .if7 .taken)))
+    stops-behind (sized .before .before .before) (freqs-not-last _ _ (freqs-there sized) (none-zero passed) (not-true _ (c .if7 .taken)))
 
 returns-8 : tie.Need-returns-8 Inv-ids μ-ids Inv-counts μ-counts Inv-blocks2 μ-blocks2
 returns-8 c =
