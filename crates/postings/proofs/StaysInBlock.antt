@@ -24,30 +24,30 @@ module _ (c : SegmentPostings) (t : Term) (bs bs′ : List ℕ) (same : length b
   -- at the end
   pub step-at-end : position (c .held) ≡ t .count → advanced c bs t ≡ advanced c bs′ t
   unfolding advanced stepping choose
-  step-at-end e = rw (same-bounds c t bs bs′ same, eq-eqb (position (c .held)) (t .count) e)
+  step-at-end e = rw (same-bounds (c .held) t bs bs′ same, eq-eqb (position (c .held)) (t .count) e)
 
   pub seek-at-end : (target : ℕ) → position (c .held) ≡ t .count → sought c bs t target ≡ sought c bs′ t target
   unfolding sought seeking choose
-  seek-at-end target e = rw (same-bounds c t bs bs′ same, eq-eqb (position (c .held)) (t .count) e)
+  seek-at-end target e = rw (same-bounds (c .held) t bs bs′ same, eq-eqb (position (c .held)) (t .count) e)
 
   -- a step to another place of the block
   pub step-held : c .held .place + 1 < 128 → advanced c bs t ≡ advanced c bs′ t
   unfolding advanced stepping choose
-  step-held h = rw (same-bounds c t bs bs′ same, lt-ltb (c .held .place + 1) 128 h)
+  step-held h = rw (same-bounds (c .held) t bs bs′ same, lt-ltb (c .held .place + 1) 128 h)
 
   -- a seek to a target not behind the present document, or not behind the block's last id
   pub seek-stays : (target : ℕ) → target ≤ getD (c .docs) (c .held .place) 0 → sought c bs t target ≡ sought c bs′ t target
   unfolding sought seeking choose
-  seek-stays target h = rw (same-bounds c t bs bs′ same, le-leb target (getD (c .docs) (c .held .place) 0) h)
+  seek-stays target h = rw (same-bounds (c .held) t bs bs′ same, le-leb target (getD (c .docs) (c .held .place) 0) h)
 
   pub seek-held : (target : ℕ) → target ≤ c .held .«last_doc» → sought c bs t target ≡ sought c bs′ t target
   unfolding sought seeking choose
-  seek-held target h = rw (same-bounds c t bs bs′ same, le-leb target (c .held .«last_doc») h)
+  seek-held target h = rw (same-bounds (c .held) t bs bs′ same, le-leb target (c .held .«last_doc») h)
 
   -- a target that is refused
   pub seek-refused : (target : ℕ) → TERMINATED < target → sought c bs t target ≡ sought c bs′ t target
   unfolding sought seeking ask choose
-  seek-refused target h = rw (same-bounds c t bs bs′ same, lt-leb target TERMINATED h)
+  seek-refused target h = rw (same-bounds (c .held) t bs bs′ same, lt-leb target TERMINATED h)
 
 -- ---- one image
 

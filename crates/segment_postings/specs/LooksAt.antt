@@ -11,7 +11,7 @@ use Rattle.format.specs.Basics.{Outcome, ok, choose}
 use Rattle.format.specs.SkipEntry.{readEntry, blockSize}
 use Rattle.format.specs.Layout.{fullBlocks, skipBytes}
 use Rattle.segment_postings.specs.declared.find.Found.{Found}
-use Rattle.segment_postings.specs.declared.SegmentPostings.{SegmentPostings}
+use Rattle.segment_postings.specs.declared.Held.{Held}
 use Rattle.segment_postings.specs.Landing.{findBlock}
 use Rattle.segment_postings.specs.Cursor.{startBehind}
 
@@ -25,13 +25,12 @@ abbrev pub bytesOf : Term → Found → List ℕ → List ℕ
 bytesOf t f bs = choose (ltb (f .block) (fullBlocks t)) (λ _. take (blockSize (f .info)) (drop (f .at) bs)) (λ _. drop (f .at) bs)
 
 -- the block that the entries lead a cursor to that leaves its own
-abbrev pub leadsTo : SegmentPostings → List ℕ → Term → Layout → ℕ → Outcome Found
-leadsTo c bs t l target =
-    findBlock (l .option) (skipBytes l bs) bs target (fullBlocks t - (c .held .block + 1)) (startBehind (c .held))
+abbrev pub leadsTo : Held → List ℕ → Term → Layout → ℕ → Outcome Found
+leadsTo h bs t l target = findBlock (l .option) (skipBytes l bs) bs target (fullBlocks t - (h .block + 1)) (startBehind h)
 
 -- two images that are the same in that block, if the entries lead to one
-abbrev pub SameThere : SegmentPostings → Term → Layout → List ℕ → List ℕ → ℕ → Type 0
-SameThere c t l bs bs′ target = (f : Found) → leadsTo c bs t l target ≡ ok f → bytesOf t f bs ≡ bytesOf t f bs′
+abbrev pub SameThere : Held → Term → Layout → List ℕ → List ℕ → ℕ → Type 0
+SameThere h t l bs bs′ target = (f : Found) → leadsTo h bs t l target ≡ ok f → bytesOf t f bs ≡ bytesOf t f bs′
 
 -- where the first full block ends, by entry 0 alone
 abbrev pub firstEnd : Layout → List ℕ → ℕ

@@ -22,11 +22,11 @@ use format::Term;
 use skip::block_size;
 ghost use mathlib.Core.Bool.{true};
 ghost use mathlib.Core.Path.{_≡_};
-ghost use Prim.Native.Nat.{_+_, _*_, _/_, _<_, _^_};
+ghost use Prim.Native.Nat.{_+_, _/_, _<_, _^_};
 ghost use lib.Dec.{eqb};
 ghost use lib.ListN.{length};
 ghost use Rattle.segment_postings.specs.Landing.{firstStart, landing};
-ghost use Rattle.segment_postings.specs.Cursor.{inBounds, answerAt, answering, opening, leastAfter, startsInside, startBehind, leaving, heldAt, stepping};
+ghost use Rattle.segment_postings.specs.Cursor.{position, inBounds, answerAt, answering, opening, leastAfter, startsInside, startBehind, leaving, heldAt, stepping};
 ghost use Rattle.segment_postings.specs.Calls.{cursorOf, Reaches};
 ghost use Rattle.segment_postings.specs.Private.{FoundThere, FindsFrom, loaded, Lands};
 
@@ -64,7 +64,7 @@ pub(crate) fn in_bounds(held: Held, term: Term, size: usize) -> bool
 // Whether the position is the end, for a place in a block.
 pub(crate) fn at_end(held: Held, term: Term) -> bool
     requires { ⌜ held .place < 128 ⌝ }
-    ensures { λ r. ⌜ r ≡ eqb (128 * held .block + held .place) (term .count) ⌝ }
+    ensures { λ r. ⌜ r ≡ eqb (position held) (term .count) ⌝ }
 {
     let count = term.count as usize;
     if held.block != count / COMPRESSION_BLOCK_SIZE {

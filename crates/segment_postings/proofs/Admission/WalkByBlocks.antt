@@ -239,11 +239,11 @@ module _ (t : Term) (bs : List ℕ) (l : Layout) (laid : layout t bs ≡ ok l) w
             })
 
         pub step-ends : 128 * b + p ≡ t .count → stepping here bs t ≡ ok here
-        unfolding atPlace
+        unfolding atPlace position
         step-ends e = stepping-ended here bs t bounds (eq-eqb (128 * d .held .block + p) (t .count) (omega (arith, k .block-is)))
 
         pub step-goes : 128 * b + p < t .count → p + 1 < 128 → stepping here bs t ≡ ok (atPlace d (p + 1))
-        unfolding atPlace
+        unfolding atPlace position
         step-goes h m = stepping-within here bs t bounds (ne-eqb (128 * d .held .block + p) (t .count) (λ e. omega (arith, k .block-is))) m
 
     -- the block behind a full one begins behind the skip bytes
@@ -253,7 +253,7 @@ module _ (t : Term) (bs : List ℕ) (l : Layout) (laid : layout t bs ≡ ok l) w
     -- the last place of a full block
     pub step-leaves : b < fullBlocks t
         → stepping (atPlace d 127) bs t ≡ landing t bs l 0 (walking (b + 1) (d .held .next) (d .held .«last_doc» + 1))
-    unfolding atPlace leastAfter
+    unfolding atPlace leastAfter position
     step-leaves some =
         let in-it : 128 * b + 127 < t .count = omega (arith, whole-count t) in
         let bounds = bounds 127 (omega arith) (omega arith) in

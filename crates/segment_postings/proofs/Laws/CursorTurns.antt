@@ -15,6 +15,7 @@ use Rattle.format.specs.Refusal.{entryBroken, targetTooLarge, stateBroken}
 use Rattle.format.specs.SkipEntry.{hasFreq, entrySize, readEntry, entryFits}
 use Rattle.format.specs.Layout.{layout, fullBlocks, tailLength, skipBytes}
 use Rattle.format.specs.Reading.{fullBlock, tailBlock}
+use Rattle.segment_postings.specs.declared.Held.{Held}
 use Rattle.segment_postings.specs.declared.SegmentPostings.{SegmentPostings}
 use Rattle.segment_postings.specs.declared.Answer.the-variants.{At}
 use Rattle.segment_postings.specs.declared.find.Found.{Found}
@@ -72,13 +73,13 @@ pub opening-is : (bs : List ℕ) (t : Term)
 unfolding opening
 opening-is bs t = refl
 
-pub leaving-is : (c : SegmentPostings) (bs : List ℕ) (t : Term) (target : ℕ)
-    → leaving (c .held) bs t target
+pub leaving-is : (h : Held) (bs : List ℕ) (t : Term) (target : ℕ)
+    → leaving h bs t target
     ≡ (andThen (layout t bs) λ l.
-    ask (startsInside t l (c .held .block + 1) (c .held .next)) entryBroken λ _.
-    landing t bs l target (startBehind (c .held)))
+    ask (startsInside t l (h .block + 1) (h .next)) entryBroken λ _.
+    landing t bs l target (startBehind h))
 unfolding leaving
-leaving-is c bs t target = refl
+leaving-is h bs t target = refl
 
 pub stepping-is : (c : SegmentPostings) (bs : List ℕ) (t : Term)
     → stepping c bs t

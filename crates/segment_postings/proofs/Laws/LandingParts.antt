@@ -6,7 +6,7 @@ use mathlib.Core.Path.{_≡_, refl, sym, ap, subst, _∙_}
 use mathlib.Core.List.{List}
 use mathlib.Core.Bool.{Bool, true, false}
 use mathlib.Core.Logic.{⊎-elim}
-use Prim.Native.Nat.{ℕ, _+_, _-_, _*_, _/_, _≤_, _<_}
+use Prim.Native.Nat.{ℕ, _+_, _-_, _/_, _≤_, _<_}
 use native.Mathlib.Nat.{eq-or-lt-of-le}
 use native.Mathlib.Decide.{decLe}
 use native.Mathlib.Omega.{arith}
@@ -225,8 +225,9 @@ module _ (h : Held) (bs : List ℕ) (t : Term) where
 -- ---- a step
 
 -- the tail's last place is the end, so that only a full block is left by a step
-pub leaves-full : (h : Held) (size : ℕ) (t : Term) → inBounds t size h ≡ true → eqb (128 * h .block + h .place) (t .count) ≡ false → 128 ≤ h .place + 1
+pub leaves-full : (h : Held) (size : ℕ) (t : Term) → inBounds t size h ≡ true → eqb (position h) (t .count) ≡ false → 128 ≤ h .place + 1
     → h .block < t .count / 128
+unfolding position
 leaves-full h size t in-bounds before last =
     let b = bounded t size h in-bounds in
     ⊎-elim (λ e. absurd (eqb-false _ _ before e)) (λ l. omega (arith, b .place-below)) (eq-or-lt-of-le (b .position-most))
@@ -237,17 +238,17 @@ module _ (c : SegmentPostings) (bs : List ℕ) (t : Term) where
   stepping-broken e = rw e
 
   module _ (in-bounds : inBounds t (length bs) (c .held) ≡ true) where
-    pub stepping-ended : eqb (128 * c .held .block + c .held .place) (t .count) ≡ true → stepping c bs t ≡ ok c
-    unfolding stepping ask choose position
+    pub stepping-ended : eqb (position (c .held)) (t .count) ≡ true → stepping c bs t ≡ ok c
+    unfolding stepping ask choose
     stepping-ended e = rw (in-bounds, e)
 
-    module _ (before : eqb (128 * c .held .block + c .held .place) (t .count) ≡ false) where
+    module _ (before : eqb (position (c .held)) (t .count) ≡ false) where
       pub stepping-within : c .held .place + 1 < 128 → stepping c bs t ≡ ok (atPlace c (c .held .place + 1))
-      unfolding stepping ask choose position
+      unfolding stepping ask choose
       stepping-within h = rw (in-bounds, before, lt-ltb _ _ h)
 
       pub stepping-leaves : 128 ≤ c .held .place + 1 → stepping c bs t ≡ leaving (c .held) bs t 0
-      unfolding stepping ask choose position
+      unfolding stepping ask choose
       stepping-leaves h = rw (in-bounds, before, le-ltb _ _ h)
 
 -- ---- where a call that came somewhere has come to

@@ -23,6 +23,7 @@ use Rattle.format.proofs.Outcome.{ok-same, ask-ok}
 use Rattle.format.proofs.LooksAt.{same-fewer, same-behind, same-full, same-layout, same-skips}
 use Rattle.segment_postings.specs.declared.find.Found.{Found}
 use Rattle.segment_postings.specs.declared.find.Start.{Start}
+use Rattle.segment_postings.specs.declared.Held.{Held}
 use Rattle.segment_postings.specs.declared.SegmentPostings.{SegmentPostings}
 use Rattle.segment_postings.specs.LooksAt.{SameFront, bytesOf, SameThere, firstEnd}
 use Rattle.segment_postings.specs.Landing.{firstStart, startAfter, findBlock, loadBlock, landing}
@@ -72,29 +73,30 @@ module _ (t : Term) (l : Layout) (bs bs′ : List ℕ) where
 
 -- ---- the calls
 
-pub same-bounds : (c : SegmentPostings) (t : Term) (bs bs′ : List ℕ) → length bs ≡ length bs′ → inBounds t (length bs) (c .held) ≡ inBounds t (length bs′) (c .held)
+pub same-bounds : (h : Held) (t : Term) (bs bs′ : List ℕ) → length bs ≡ length bs′ → inBounds t (length bs) h ≡ inBounds t (length bs′) h
 unfolding inBounds
-same-bounds c t bs bs′ long = rw long
+same-bounds h t bs bs′ long = rw long
 
-module _ (c : SegmentPostings) (t : Term) (l : Layout) (bs bs′ : List ℕ) (laid : layout t bs ≡ ok l) (s : SameFront l bs bs′) where
+module _ (t : Term) (l : Layout) (bs bs′ : List ℕ) (laid : layout t bs ≡ ok l) (s : SameFront l bs bs′) where
   -- a cursor that leaves its block
-  pub lands-on-one : (target : ℕ) → SameThere c t l bs bs′ target → leaving (c .held) bs t target ≡ leaving (c .held) bs′ t target
+  pub lands-on-one : (h : Held) (target : ℕ) → SameThere h t l bs bs′ target → leaving h bs t target ≡ leaving h bs′ t target
   unfolding andThen
-  lands-on-one target there =
-      rw (leaving-is c bs t target, leaving-is c bs′ t target, laid, same-layout t l bs bs′ (s .long) (s .front) laid)
-      (rw (landing-looks-at t l bs bs′ target (startBehind (c .held)) s there))
+  lands-on-one h target there =
+      rw (leaving-is h bs t target, leaving-is h bs′ t target, laid, same-layout t l bs bs′ (s .long) (s .front) laid)
+      (rw (landing-looks-at t l bs bs′ target (startBehind h) s there))
 
   -- .. by a step, to the first block behind it whose last id is at least 0: the next
-  pub step-lands-on-one : SameThere c t l bs bs′ 0 → advanced c bs t ≡ advanced c bs′ t
-  step-lands-on-one there =
-      rw (advanced-is c bs t, advanced-is c bs′ t, stepping-is c bs t, stepping-is c bs′ t, same-bounds c t bs bs′ (s .long), lands-on-one 0 there)
+  pub step-lands-on-one : (c : SegmentPostings) → SameThere (c .held) t l bs bs′ 0 → advanced c bs t ≡ advanced c bs′ t
+  step-lands-on-one c there =
+      rw (advanced-is c bs t, advanced-is c bs′ t, stepping-is c bs t, stepping-is c bs′ t)
+      (rw (same-bounds (c .held) t bs bs′ (s .long), lands-on-one (c .held) 0 there))
 
   -- .. or by a seek
-  pub seek-lands-on-one : (target : ℕ) → SameThere c t l bs bs′ target → sought c bs t target ≡ sought c bs′ t target
+  pub seek-lands-on-one : (c : SegmentPostings) (target : ℕ) → SameThere (c .held) t l bs bs′ target → sought c bs t target ≡ sought c bs′ t target
   unfolding sought
-  seek-lands-on-one target there =
-      rw (seeking-is c bs t target, seeking-is c bs′ t target, same-bounds c t bs bs′ (s .long))
-      (rw (behind-is c bs t target, behind-is c bs′ t target, lands-on-one target there))
+  seek-lands-on-one c target there =
+      rw (seeking-is c bs t target, seeking-is c bs′ t target, same-bounds (c .held) t bs bs′ (s .long))
+      (rw (behind-is c bs t target, behind-is c bs′ t target, lands-on-one (c .held) target there))
 
 -- ---- opening
 

@@ -35,9 +35,9 @@ module _ (c : SegmentPostings) (bs : List ℕ) (t : Term) where
 
   leaving-near : {d : SegmentPostings} → c .held .block < fullBlocks t → leaving (c .held) bs t 0 ≡ ok d → Near t d
   leaving-near full e =
-      let laid = andThen-ok _ _ (sym (leaving-is c bs t 0) ∙ e) in
+      let laid = andThen-ok _ _ (sym (leaving-is (c .held) bs t 0) ∙ e) in
       let first = landing-first _ _ _ _ _ (ask-ok _ _ _ (laid .2) .1) in
-      let placed = leaving-placed c bs t 0 (omega arith) full e in
+      let placed = leaving-placed (c .held) bs t 0 (omega arith) full e in
       (omega arith, omega (arith, placed .position-most))
 
   pub stepping-near : {d : SegmentPostings} → stepping c bs t ≡ ok d → Near t d
@@ -70,7 +70,7 @@ module _ (c : SegmentPostings) (bs : List ℕ) (t : Term) where
     behind-near small e =
         let asked = ask-ok _ _ _ (sym (behind-is c bs t target) ∙ e) in
         let left = andThen-ok _ _ (asked .1) in
-        let placed = leaving-placed c bs t target small (ltb-true _ _ (asked .0)) (left .1) in
+        let placed = leaving-placed (c .held) bs t target small (ltb-true _ _ (asked .0)) (left .1) in
         subst (Near t) (ok-same (left .2)) (placed .place-below, placed .position-most)
 
     pub seeking-near : {d : SegmentPostings} → seeking c bs t target ≡ ok d → Near t d

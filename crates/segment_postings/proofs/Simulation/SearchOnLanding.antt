@@ -25,6 +25,7 @@ use Rattle.format.proofs.Outcome.{ok-same, ask-ok, andThen-ok}
 use Rattle.format.proofs.SoundBlock.{fullBlock-sound, tailBlock-sound}
 use Rattle.segment_postings.specs.declared.find.Found.{Found}
 use Rattle.segment_postings.specs.declared.find.Start.{Start}
+use Rattle.segment_postings.specs.declared.Held.{Held}
 use Rattle.segment_postings.specs.declared.SegmentPostings.{SegmentPostings}
 use Rattle.segment_postings.specs.Landing.{startAfter, findBlock, loadBlock, padded, holding, landing}
 use Rattle.segment_postings.specs.Cursor.{startBehind, leaving, placeOf}
@@ -111,8 +112,8 @@ module _ (t : Term) (bs : List ℕ) (l : Layout) (target : ℕ) (small : target 
       subst (Placed t target) (ok-same (block .2))
       (load-placed (found .0) (s .unpacked) (omega (arith, k .block-most)) (λ m. k .reaches (omega arith)) (block .1))
 
-pub leaving-placed : (c : SegmentPostings) (bs : List ℕ) (t : Term) (target : ℕ) {d : SegmentPostings} → target ≤ TERMINATED
-    → c .held .block < fullBlocks t → leaving (c .held) bs t target ≡ ok d → Placed t target d
-leaving-placed c bs t target small full e =
-    let laid = andThen-ok _ _ (sym (leaving-is c bs t target) ∙ e) in
-    landing-placed t bs _ target small (startBehind (c .held)) (omega arith) (ask-ok _ _ _ (laid .2) .1)
+pub leaving-placed : (h : Held) (bs : List ℕ) (t : Term) (target : ℕ) {d : SegmentPostings} → target ≤ TERMINATED
+    → h .block < fullBlocks t → leaving h bs t target ≡ ok d → Placed t target d
+leaving-placed h bs t target small full e =
+    let laid = andThen-ok _ _ (sym (leaving-is h bs t target) ∙ e) in
+    landing-placed t bs _ target small (startBehind h) (omega arith) (ask-ok _ _ _ (laid .2) .1)

@@ -107,27 +107,27 @@ module _ (c : SegmentPostings) (bs : List ℕ) (t : Term) (target : ℕ) where
   seeking-broken e = rw (seeking-is, e)
 
   module _ (in-bounds : inBounds t (length bs) (c .held) ≡ true) where
-    pub seeking-ended : eqb (128 * c .held .block + c .held .place) (t .count) ≡ true → seeking c bs t target ≡ ok c
-    unfolding ask choose position
+    pub seeking-ended : eqb (position (c .held)) (t .count) ≡ true → seeking c bs t target ≡ ok c
+    unfolding ask choose
     seeking-ended e = rw (seeking-is, in-bounds, e)
 
-    module _ (before : eqb (128 * c .held .block + c .held .place) (t .count) ≡ false) where
+    module _ (before : eqb (position (c .held)) (t .count) ≡ false) where
       pub seeking-too-large : TERMINATED < target → seeking c bs t target ≡ refused targetTooLarge
-      unfolding ask choose position
+      unfolding ask choose
       seeking-too-large h = rw (seeking-is, in-bounds, before, lt-leb _ _ h)
 
       module _ (small : target ≤ TERMINATED) where
         pub seeking-stays : target ≤ getD (c .docs) (c .held .place) 0 → seeking c bs t target ≡ ok c
-        unfolding ask choose position
+        unfolding ask choose
         seeking-stays h = rw (seeking-is, in-bounds, before, le-leb _ _ small, le-leb _ _ h)
 
         module _ (ahead : getD (c .docs) (c .held .place) 0 < target) where
           pub seeking-within : target ≤ c .held .«last_doc» → seeking c bs t target ≡ within c t target
-          unfolding ask choose position
+          unfolding ask choose
           seeking-within h = rw (seeking-is, in-bounds, before, le-leb _ _ small, lt-leb _ _ ahead, le-leb _ _ h)
 
           pub seeking-behind : c .held .«last_doc» < target → seeking c bs t target ≡ behind c bs t target
-          unfolding ask choose position
+          unfolding ask choose
           seeking-behind h = rw (seeking-is, in-bounds, before, le-leb _ _ small, lt-leb _ _ ahead, lt-leb _ _ h)
 
 -- ---- a fresh cursor's seek, and the rank

@@ -2,13 +2,12 @@
 -- Assumes nothing.
 use mathlib.Core.Path.{_≡_, sym, _∙_}
 use mathlib.Core.Bool.{true, false}
-use Prim.Native.Nat.{_+_, _*_}
 use native.Mathlib.Omega.{arith}
 use borrow.Author.Needs.{needs}
 use borrow.Author.Tests.{not-true, not-false}
 use lib.Dec.{eqb}
 use lib.ListN.{length}
-use Rattle.segment_postings.specs.Cursor.{inBounds}
+use Rattle.segment_postings.specs.Cursor.{position, inBounds}
 use Rattle.segment_postings.proofs.core.Question16.{bounded}
 use Rattle.segment_postings.proofs.Laws.LandingParts.{reaches-as, none-reached, held-reached}
 use Rattle.segment_postings.proofs.seeks.SeekCases.{seeking-broken, seeking-ended, seeking-too-large, seeking-stays, seeking-within, seeking-behind}
@@ -34,7 +33,7 @@ returns-2 c =
     held-reached _ _ _ (seeking-ended _ _ _ _ (in-bounds (c .before .before)) (sym (c .before .at-end .ensures) ∙ c .if2 .taken))
 
 before-end : (c : tie.Else2) → let s = c .before .before .before .before .before in
-    eqb (128 * s .args .held .block + s .args .held .place) (s .args .term .count) ≡ false
+    eqb (position (s .args .held)) (s .args .term .count) ≡ false
 before-end c = sym (c .before .at-end .ensures) ∙ c .if2 .left
 
 returns-3 : tie.Need-returns-3

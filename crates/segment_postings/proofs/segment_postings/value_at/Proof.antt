@@ -7,7 +7,7 @@ use native.Mathlib.Omega.{arith}
 use borrow.Author.Tests.{not-true, not-false}
 use lib.ListN.{length}
 use Rattle.format.specs.Basics.{ask, choose}
-use Rattle.segment_postings.specs.Cursor.{position, inBounds, valueAt}
+use Rattle.segment_postings.specs.Cursor.{inBounds, valueAt}
 use Rattle.segment_postings.specs.Calls.{valued}
 use Rattle.segment_postings.proofs.core.Question16.{bounded}
 use borrow.Author.Needs.{needs}
@@ -39,7 +39,7 @@ value-requires : tie.Need-value-requires
 value-requires c κs = search needs
 
 returns-2 : tie.Need-returns-2
-unfolding valued valueAt ask choose position
+unfolding valued valueAt ask choose
 returns-2 c =
     let e = c .before in
     rw (in-bounds (e .before .before), sym (e .before .at-end .ensures) ∙ e .if2 .taken) (c .value .ensures)
@@ -54,7 +54,7 @@ value-requires-2 : tie.Need-value-requires-2
 value-requires-2 c κs = search needs
 
 returns-3 : tie.Need-returns-3
-unfolding valued valueAt ask choose position
+unfolding valued valueAt ask choose
 returns-3 c =
     let e = c .before .before in
     rw (in-bounds (e .before .before), sym (e .before .at-end .ensures) ∙ e .if2 .left) (c .value2 .ensures)
