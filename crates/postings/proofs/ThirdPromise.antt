@@ -38,7 +38,7 @@ use Rattle.segment_postings.specs.declared.Moved.{Moved}
 use Rattle.segment_postings.specs.declared.Reached.{Reached}
 use Rattle.segment_postings.specs.declared.SegmentPostings.{SegmentPostings}
 use Rattle.segment_postings.specs.Cursor.{moved, opened, stepping, seeking, advanced, sought}
-use Rattle.segment_postings.specs.Calls.{cursorOf, Reaches}
+use Rattle.segment_postings.specs.Calls.{cursorOf, Leaves, Reaches}
 use Rattle.segment_postings.specs.Called.{reaching, called, callsFrom, calls, cursorAfter, positions, answerLength, entriesPlace, modelNumbers}
 use Rattle.segment_postings.specs.Called.{SameCall}
 use Rattle.segment_postings.proofs.Laws.CallsByValue.{open-in-calls, advance-in-calls, seek-in-calls}
@@ -58,11 +58,8 @@ use Rattle.postings.proofs.VisitedBlocks.{visited-blocks, visited-disti
 -- ---- a mixed list answers what its calls answer
 
 -- an answer and a cursor that m puts together
-abbrev Gives : Moved → Answer → SegmentPostings → Type 0
-Gives m a c = (a ≡ m .answer) × (c ≡ m .cursor)
-
-gives : {m : Moved} {a : Answer} {c : SegmentPostings} → record { answer = a; cursor = c } ≡ m → Gives m a c
-gives e = (ap (λ (m : Moved). m .answer) e, ap (λ (m : Moved). m .cursor) e)
+leaves : {m : Moved} {a : Answer} {c : SegmentPostings} → record { answer = a; cursor = c } ≡ m → Leaves m a c
+leaves e = (ap (λ (m : Moved). m .answer) e, ap (λ (m : Moved). m .cursor) e)
 
 -- a call on arrays is the call by value on the cursor that they make with the numbers
 on-arrays-call : (bs : List ℕ) (t : Term) (call : Call) (held : Held) {docs freqs docs′ freqs′ : List ℕ} {r : Reached}
@@ -73,12 +70,12 @@ on-arrays-call bs t step held k = advance-in-calls bs t _ k
 on-arrays-call bs t (seek target) held k = seek-in-calls bs t _ target k
 
 met : {bs : List ℕ} {t : Term} {call : Call} {manner : Manner} {c : SegmentPostings} {a : Answer} {c′ : SegmentPostings}
-    → Meets bs t call manner c a c′ → Gives (called c bs t call) a c′
-met (handed-back e) = gives e
+    → Meets bs t call manner c a c′ → Leaves (called c bs t call) a c′
+met (handed-back e) = leaves e
 met (left-there e) = e
 met {bs} {t} {call} (came held {docs} {freqs} {docs′} {freqs′} {held′} k tells) =
-    gives (rw tells (sym (on-arrays-call bs t call held k .came refl)))
-met {bs} {t} {call} (stayed held k) = let s = on-arrays-call bs t call held k .stayed refl in gives (rw (s .1, s .2) (sym (s .0)))
+    leaves (rw tells (sym (on-arrays-call bs t call held k .came refl)))
+met {bs} {t} {call} (stayed held k) = let s = on-arrays-call bs t call held k .stayed refl in leaves (rw (s .1, s .2) (sym (s .0)))
 
 -- on every image, admitted or not, each answer and each cursor is what the definition of its call gives
 pub called-are : {bs : List ℕ} {t : Term} {c d : SegmentPostings} {made : List MadeCall} {told : List Answer} → Called bs t c made told d
@@ -91,10 +88,10 @@ called-are (next e later) =
     (ap₂ _∷_ (same .0) (rw (same .1) at (p .0)), rw (same .1) at (p .1))
 
 -- .. and opening's
-pub opened-are : {bs : List ℕ} {t : Term} {a : Answer} {c : SegmentPostings} → Opened bs t a c → Gives (opened bs t) a c
-opened-are (handed-out e) = gives e
-opened-are {bs} {t} (filled {docs} {freqs} {docs′} {freqs′} {held} k tells) = gives (rw tells (sym (open-in-calls bs t k .came refl)))
-opened-are {bs} {t} (unfilled k) = gives (sym (open-in-calls bs t k .stayed refl .0))
+pub opened-are : {bs : List ℕ} {t : Term} {a : Answer} {c : SegmentPostings} → Opened bs t a c → Leaves (opened bs t) a c
+opened-are (handed-out e) = leaves e
+opened-are {bs} {t} (filled {docs} {freqs} {docs′} {freqs′} {held} k tells) = leaves (rw tells (sym (open-in-calls bs t k .came refl)))
+opened-are {bs} {t} (unfilled k) = leaves (sym (open-in-calls bs t k .stayed refl .0))
 
 -- ---- the promise
 
