@@ -76,7 +76,7 @@ plain-question d (suc v ∷ vs) =
     let next : d + 1 + suc v ≡ d + suc v + 1 = omega arith in
     rw (le-leb 1 (suc v) (omega arith), le-leb (d + 1) (d + suc v) (omega arith), next, below-leb, add-zero, plain-question (d + suc v) vs)
 
-pub plain-same : (d : ℕ) (vs : List ℕ) → idsBehind (d + 1) vs ≡ idsFrom 0 d vs
+plain-same : (d : ℕ) (vs : List ℕ) → idsBehind (d + 1) vs ≡ idsFrom 0 d vs
 unfolding idsBehind idsFrom
 plain-same d [] = refl
 plain-same d (v ∷ vs) =
@@ -85,7 +85,7 @@ plain-same d (v ∷ vs) =
     rw (next, here, add-zero) (ap (λ (ds : List ℕ). (d + v) ∷ ds) (plain-same (d + v) vs))
 
 -- a list's first id, whose difference is counted from before 0
-pub ids-first : (v : ℕ) (vs : List ℕ) → idsFrom 0 0 (v ∷ vs) ≡ v ∷ idsFrom 0 v vs
+ids-first : (v : ℕ) (vs : List ℕ) → idsFrom 0 0 (v ∷ vs) ≡ v ∷ idsFrom 0 v vs
 unfolding idsFrom
 ids-first v vs = rw (zero-add, add-zero)
 
@@ -93,7 +93,7 @@ differencesRise-first : (d : ℕ) (ds : List ℕ) → differencesRise 0 (d ∷ d
 unfolding differencesRise
 differencesRise-first d ds = rw zero-add
 
-pub behind-first : (d : ℕ) (ds : List ℕ) → idsBehind 0 (d ∷ ds) ≡ (d - 1) ∷ idsBehind d ds
+behind-first : (d : ℕ) (ds : List ℕ) → idsBehind 0 (d ∷ ds) ≡ (d - 1) ∷ idsBehind d ds
 unfolding idsBehind
 behind-first d ds = rw zero-add
 
@@ -147,7 +147,7 @@ absorbed least last h = go (ltb last TERMINATED) refl
     go false e = and-false (leb least TERMINATED)
 
 -- where no difference is 0 the last id decides; z stands before them
-pub differencesRise-last : (z least : ℕ) (ds : List ℕ) → 0 < length ds → member 0 ds ≡ false
+differencesRise-last : (z least : ℕ) (ds : List ℕ) → 0 < length ds → member 0 ds ≡ false
     → differencesRise least ds ≡ ltb (lastOf z (idsBehind least ds)) TERMINATED
 unfolding differencesRise idsBehind lastOf member
 differencesRise-last z least [] some h = absurd (omega arith)
@@ -161,7 +161,7 @@ differencesRise-last z least (suc d ∷ (e ∷ ds)) some h =
     (absorbed next (lastOf (next - 1) (idsBehind next (e ∷ ds))) (last-least next (e ∷ ds)))
 
 -- where one is 0 question 6 is a no
-pub differencesRise-zero : (least : ℕ) (ds : List ℕ) → member 0 ds ≡ true → differencesRise least ds ≡ false
+differencesRise-zero : (least : ℕ) (ds : List ℕ) → member 0 ds ≡ true → differencesRise least ds ≡ false
 unfolding differencesRise member
 differencesRise-zero least [] h = absurd (false≢true h)
 differencesRise-zero least (zero ∷ ds) h = refl
@@ -169,7 +169,7 @@ differencesRise-zero least (suc d ∷ ds) h =
     rw (differencesRise-zero (least + suc d) ds (rw (ne-eqb 0 (suc d) (omega arith)) at h)) (and-false (and (leb 1 (suc d)) (leb (least + suc d) TERMINATED)))
 
 -- where question 6 is a yes the ids rise
-pub differencesRise-rising : (least : ℕ) (ds : List ℕ) → differencesRise least ds ≡ true → rising least (idsBehind least ds) ≡ true
+differencesRise-rising : (least : ℕ) (ds : List ℕ) → differencesRise least ds ≡ true → rising least (idsBehind least ds) ≡ true
 unfolding differencesRise idsBehind rising
 differencesRise-rising least [] h = refl
 differencesRise-rising least (d ∷ ds) h =
@@ -181,7 +181,7 @@ differencesRise-rising least (d ∷ ds) h =
     rw (le-leb least (least + d - 1) (omega arith), lt-ltb (least + d - 1) TERMINATED (omega arith), next) (differencesRise-rising (least + d) ds (p .1))
 
 -- a place of 32 bits holds each id whole
-pub ids-kept : (least : ℕ) (ds : List ℕ) → differencesRise least ds ≡ true → map (λ d. d % 2 ^ 32) (idsBehind least ds) ≡ idsBehind least ds
+ids-kept : (least : ℕ) (ds : List ℕ) → differencesRise least ds ≡ true → map (λ d. d % 2 ^ 32) (idsBehind least ds) ≡ idsBehind least ds
 ids-kept least ds h =
     kept-below (idsBehind least ds) (allBelow-le (idsBehind least ds) (omega arith) (rising-below least (idsBehind least ds) (differencesRise-rising least ds h)))
 

@@ -15,7 +15,7 @@ use borrow.Author.Tests.{eq-eqb}
 use lib.Dec.{leb, ltb}
 use lib.ListN.{length}
 use Rattle.format.specs.declared.IndexRecordOption.{IndexRecordOption}
-use Rattle.format.specs.Basics.{Outcome, ok, refused, andThen, ask, TERMINATED, AllBelow, orBefore}
+use Rattle.format.specs.Basics.{Outcome, ok, andThen, ask, TERMINATED, AllBelow, orBefore}
 use Rattle.format.specs.SkipEntry.{hasFreq}
 use Rattle.format.specs.Values.{rising, countable}
 use Rattle.format.specs.Written.{image}

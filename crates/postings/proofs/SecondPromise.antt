@@ -7,7 +7,7 @@
 use mathlib.Core.Bool.{Bool, _&&_ as and}
 use mathlib.Core.List.{List, [], _∷_, map}
 use mathlib.Core.Path.{_≡_, refl, ap, _∙_}
-use Prim.Native.Nat.{ℕ, _+_, _≤_, _<_, _^_}
+use Prim.Native.Nat.{ℕ, _≤_, _<_, _^_}
 use borrow.Author.Tests.{lt-leb}
 use lib.Dec.{ltb}
 use lib.ListN.{length, take}

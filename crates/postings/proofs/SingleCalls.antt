@@ -4,7 +4,7 @@
 -- TakenDocuments.antt). So those documents form a list that is accepted; closing under their number gives their image, which is admitted
 -- and reads back. A whole list handed in so is accepted exactly where `write_list` accepts it.
 -- Assumes nothing.
-use mathlib.Core.Bool.{Bool, true, false, _&&_ as and, false≢true}
+use mathlib.Core.Bool.{Bool, true, _&&_ as and, false≢true}
 use mathlib.Core.List.{List, [], _∷_, _++_}
 use mathlib.Core.Logic.{_↔_}
 use mathlib.Core.Path.{_≡_, refl, sym, ap, subst, _∙_}
@@ -14,7 +14,7 @@ use borrow.Author.Tests.{le-leb, leb-true, eq-eqb, eqb-true}
 use lib.Dec.{eqb, ltb}
 use lib.ListN.{length, take}
 use Rattle.format.specs.declared.IndexRecordOption.{IndexRecordOption}
-use Rattle.format.specs.Basics.{Outcome, ok, refused, andThen, ask, orBefore, fitsAt, putAt, AllBelow}
+use Rattle.format.specs.Basics.{Outcome, ok, andThen, ask, orBefore, fitsAt, AllBelow}
 use Rattle.format.specs.Refusal.{noRoom, countMismatch}
 use Rattle.format.specs.Accepted.{keptIn, begin, takeDoc, takeDocs, written}
 use Rattle.format.specs.Reading.{reading, soundness}
@@ -118,12 +118,9 @@ module _ {mode : ℕ} {recording : Bool} {first : PostingsSerializer} (begins : 
   abbrev freqs : List ℕ
   freqs = taken answers fs
 
-  -- those taken form a list that is accepted, and their full blocks are at the front of the areas
+  -- those taken form a list that is accepted
   pub taken-accepted : (least : ℕ) × (takeDocs option 0 ids freqs ≡ ok least)
   taken-accepted = (behind .least, behind .docs-accepted)
-
-  pub taken-blocks : (a .skips ≡ putAt 0 (fullBlocks option ids freqs .skips) skips) × (a .postings ≡ putAt 0 (fullBlocks option ids freqs .postings) postings)
-  taken-blocks = (behind .skips-after, behind .postings-after)
 
   -- one document more: 11 to 13 behind those taken, and 15 where the full blocks with it don't fit the areas
   module _ (d f : ℕ) (below : f < 2 ^ 32) {answer : Accepted} {b : Areas} (h : Hands d f a answer b) where

@@ -61,11 +61,11 @@ pub record Searches (target : ℕ) (ds xs : List ℕ) : Type 0 where
   pub reaches : target ≤ getD xs (searchBlock xs target) 0
 
 module _ (least : ℕ) (ds : List ℕ) (r : rising least ds ≡ true) (few : length ds ≤ 128) where
-  pub padded-length : length (padded TERMINATED ds) ≡ 128
+  padded-length : length (padded TERMINATED ds) ≡ 128
   unfolding padded
   padded-length = rw (length-append, length-replicate) (omega arith)
 
-  pub padded-rises : (i : ℕ) → i + 1 < 128 → getD (padded TERMINATED ds) i 0 ≤ getD (padded TERMINATED ds) (i + 1) 0
+  padded-rises : (i : ℕ) → i + 1 < 128 → getD (padded TERMINATED ds) i 0 ≤ getD (padded TERMINATED ds) (i + 1) 0
   unfolding padded
   padded-rises i h = rw add-one (filled-rises least (128 - length ds) ds i r (omega (arith, padded-length)))
 

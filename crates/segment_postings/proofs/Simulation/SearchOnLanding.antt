@@ -6,7 +6,7 @@
 use mathlib.Core.Bool.{true}
 use mathlib.Core.List.{List}
 use mathlib.Core.Path.{_≡_, sym, subst, _∙_}
-use Prim.Native.Nat.{ℕ, zero, suc, _+_, _-_, _*_, _≤_, _<_}
+use Prim.Native.Nat.{ℕ, zero, suc, _+_, _*_, _≤_, _<_}
 use native.Mathlib.Omega.{arith}
 use borrow.Author.Tests.{leb-true, ltb-true}
 use lib.Dec.{leb}
@@ -15,11 +15,10 @@ use Rattle.format.specs.declared.IndexRecordOption.{IndexRecordOption}
 use Rattle.format.specs.declared.Layout.{Layout}
 use Rattle.format.specs.declared.Term.{Term}
 use Rattle.format.specs.Basics.{ok, TERMINATED}
-use Rattle.format.specs.Counts.{countBelow}
 use Rattle.format.specs.Layout.{fullBlocks, tailLength}
 use Rattle.format.specs.Reading.{Block}
 use Rattle.format.specs.Values.{rising}
-use Rattle.format.proofs.Below.{count-le, count-filled}
+use Rattle.format.proofs.Below.{count-le}
 use Rattle.format.proofs.Choice.{choose-elim}
 use Rattle.format.proofs.Outcome.{ok-same, ask-ok, andThen-ok}
 use Rattle.format.proofs.SoundBlock.{fullBlock-sound, tailBlock-sound}
@@ -30,7 +29,7 @@ use Rattle.segment_postings.specs.declared.SegmentPostings.{SegmentPosti
 use Rattle.segment_postings.specs.Landing.{startAfter, findBlock, loadBlock, padded, holding, landing}
 use Rattle.segment_postings.specs.Cursor.{startBehind, leaving, placeOf}
 use Rattle.segment_postings.proofs.find.FoundBlock.{entryOf, find-tail, find-entry}
-use Rattle.segment_postings.proofs.Simulation.PaddedDocs.{full-last, tail-last, padded-length, padded-rises, padded-search}
+use Rattle.segment_postings.proofs.Simulation.PaddedDocs.{full-last, tail-last, padded-search}
 use Rattle.segment_postings.proofs.Laws.CursorTurns.{loadBlock-is, landing-is, leaving-is}
 
 -- ---- the block that is found
@@ -57,14 +56,9 @@ module _ (option : IndexRecordOption) (skips bs : List ℕ) (target : ℕ) where
 
 -- ---- the block that is landed on
 
--- the places of a landed cursor, and the target's among them
+-- the target's place on a landed cursor
 pub record Placed (t : Term) (target : ℕ) (d : SegmentPostings) : Type 0 where
-  pub many : length (d .docs) ≡ 128
-  pub never-falls : (i : ℕ) → i + 1 < 128 → getD (d .docs) i 0 ≤ getD (d .docs) (i + 1) 0
-  pub last-reaches : target ≤ getD (d .docs) 127 0
-  pub place-counts : placeOf d target ≡ countBelow target (d .docs)
   pub place-below : placeOf d target < 128
-  pub place-reaches : target ≤ getD (d .docs) (placeOf d target) 0
   pub position-most : 128 * d .held .block + placeOf d target ≤ t .count
 
 module _ (t : Term) (bs : List ℕ) (l : Layout) (target : ℕ) (small : target ≤ TERMINATED) where
@@ -74,15 +68,7 @@ module _ (t : Term) (bs : List ℕ) (l : Layout) (target : ℕ) (small : target 
   unfolding holding placeOf padded
   holding-placed f unpacked b least rises few reaches inside =
       let place = padded-search least (b .docs) rises few target small reaches in
-      record {
-        many = padded-length least (b .docs) rises few;
-        never-falls = padded-rises least (b .docs) rises few;
-        last-reaches = reaches;
-        place-counts = place .counts ∙ sym (count-filled target (b .docs) (128 - length (b .docs)) TERMINATED small);
-        place-below = place .below;
-        place-reaches = place .reaches;
-        position-most = omega (arith, place .counts, count-le target (b .docs));
-      }
+      record { place-below = place .below; position-most = omega (arith, place .counts, count-le target (b .docs)) }
 
   load-placed : (f : Found) (unpacked : ℕ) {b : Block} → f .block ≤ fullBlocks t → (f .block < fullBlocks t → target ≤ f .info .«last_doc»)
       → loadBlock t l bs f ≡ ok b → Placed t target (holding f unpacked b)
