@@ -17,7 +17,7 @@ use differential::reader::{Image, ANSWER_NUMBERS};
 const SEED: u64 = 1;
 const DOCUMENTS: usize = 4_000_000;
 const SEEKS: usize = 100_000;
-const RUNS: usize = 15;
+const RUNS: usize = 60;
 
 fn main() {
     let mut rng = Rng::new(SEED);
