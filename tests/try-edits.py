@@ -101,8 +101,8 @@ class Copies:
 
     def __init__(self, folder, crate):
         self.first = pathlib.Path(folder) / crate / "0"
+        self.checked = pathlib.Path(folder) / crate / "checked"
         self.crate = crate
-        self.made = 1
         self.free = queue.SimpleQueue()
 
     def prepare(self):
@@ -113,6 +113,7 @@ class Copies:
         (self.first / "target").mkdir(exist_ok=True)
         (self.first / "target/rlib").symlink_to(rlib)
         good = proved(check(self.first, self.crate))
+        shutil.copytree(self.first / "target/inc", self.checked)
         for i in range(1, WORKERS):
             shutil.copytree(self.first, self.first.parent / str(i), symlinks=True)
             self.free.put(self.first.parent / str(i))
@@ -122,6 +123,9 @@ class Copies:
     def try_one(self, edit):
         copy = self.free.get()
         try:
+            # What the check without an edit left, so that the text which the edit before changed isn't checked again.
+            shutil.rmtree(copy / "target/inc")
+            shutil.copytree(self.checked, copy / "target/inc")
             return tried(copy, self.crate, edit)
         finally:
             self.free.put(copy)
