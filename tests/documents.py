@@ -1,10 +1,13 @@
 #!/usr/bin/env python3
 """Holds the documents to the repository: every file that they name is there, every wrong program that docs/PROMISES.md names is tried,
-every one that is tried is named there, and the names of theorems that stand behind a file are in that file. Prints what is wrong."""
+every one that is tried is named there, and the names of theorems that stand behind a file are in that file. So too the wrong programs:
+the text that one changes stands in the sources. Prints what is wrong."""
 
 import pathlib
 import re
 import sys
+
+from wrong_programs import applied
 
 ROOT = pathlib.Path(__file__).resolve().parent.parent
 PAGES = [ROOT / "README.md", *sorted((ROOT / "docs").glob("*.md"))]
@@ -13,7 +16,11 @@ OTHERS = re.compile(r"\*|NAME|MODULE|/F/|^\.\./shared|^target/|(?<!examples/firs
 # What CHANGES.md says of earlier landings may name files that have moved since.
 FREE = {"CHANGES.md"}
 
-edits = {path.stem for path in ROOT.glob("tests/edits/*/*.edit")} | {path.stem for path in ROOT.glob("crates/*/must-fail/*.edit")}
+folders = {folder: folder.name for folder in ROOT.glob("tests/edits/*")} | {folder: folder.parent.name for folder in ROOT.glob("crates/*/must-fail")}
+edits = {edit.stem for folder in folders for edit in folder.glob("*.edit")}
+for folder, crate in folders.items():
+    for edit in folder.glob("*.edit"):
+        applied(ROOT / "crates" / crate, edit)
 wrong = []
 
 

@@ -19,6 +19,8 @@ import subprocess
 import sys
 import tempfile
 
+from wrong_programs import applied
+
 ROOT = pathlib.Path(__file__).resolve().parent.parent
 KEPT = ROOT / "tests/edits"
 WORKERS = os.cpu_count() or 1
@@ -46,19 +48,6 @@ def proved(said):
     return bool(verdicts) and verdicts[-1] == "proved"
 
 
-def changes(edit):
-    """The file, the old text and the new one, of each change. A `file:` line holds for the changes after it."""
-    found = []
-    for word, rest in re.findall(r"^(file|old|new): ?(.*)$", edit.read_text(), re.M):
-        if word == "file":
-            file = rest.strip()
-        elif word == "old":
-            old = rest
-        else:
-            found.append((file, old, rest))
-    return found
-
-
 def unfit(place, text):
     """Whether an error says that a proof file, or the code itself, doesn't fit, and not that a fact fails."""
     first = text.split("\n", 1)[0].rstrip()
@@ -82,14 +71,10 @@ def judged(said):
 
 def tried(copy, crate, edit):
     """Whether the crate is refused with the edit because a fact fails, and a line that says so."""
-    before = {}
-    for file, old, new in changes(edit):
-        path = copy / "crates" / crate / file
-        text = path.read_text()
-        before.setdefault(path, text)
-        if text.count(old) != 1:
-            raise SystemExit(f"{edit}: its old text is there {text.count(old)} times")
-        path.write_text(text.replace(old, new))
+    texts = applied(copy / "crates" / crate, edit)
+    before = {path: path.read_text() for path in texts}
+    for path, text in texts.items():
+        path.write_text(text)
     good, line = judged(check(copy, crate))
     for path, text in before.items():
         path.write_text(text)
