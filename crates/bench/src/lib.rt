@@ -1,5 +1,7 @@
 // For measuring: many seeks on one cursor whose block stays in two arrays, so that no call copies it.
 
+#![tactic(auto)]
+
 ghost use Rattle.std.specs.Prelude.{◌≤◌, length};
 ghost use Rattle.segment_postings.specs.Calls.{cursor_of};
 ghost use Rattle.bench.specs.Seeks.{Room, Stored, Served, seeks, served_in};

@@ -1,5 +1,7 @@
 // 128 values at one width, in four lanes of 32-bit words: `BitPacker4x` of the Rust crate bitpacking, whose packed form document 01 gives.
 
+#![tactic(auto)]
+
 ghost use Rattle.std.specs.Prelude.{◌≡◌, ℕ, ◌+◌, ◌-◌, ◌*◌, ◌%◌, ◌^◌, ◌≤◌, ◌<◌, map, length};
 ghost use Rattle.format.specs.Basics.{four_bytes};
 ghost use Rattle.format.specs.Bitpacking.{packed_at, bits_f, width};

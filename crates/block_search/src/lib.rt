@@ -1,5 +1,7 @@
 // The place of a target in a block of 128 ids.
 
+#![tactic(auto)]
+
 ghost use Rattle.std.specs.Prelude.{◌≡◌, ◌+◌, ◌*◌, ◌≤◌, ◌<◌};
 ghost use Rattle.block_search.specs.Search.{pivots_below_of, search_block_of, CountsSmaller};
 

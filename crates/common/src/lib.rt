@@ -1,6 +1,8 @@
 // What several crates do with bytes and 32-bit numbers: whether a run of bytes lies within others, bytes put into an area that a
 // caller lends, numbers in four bytes, and differences that stop at 0. Named for the Rust's crate of such helpers.
 
+#![tactic(auto)]
+
 ghost use Rattle.std.specs.Prelude.{◌≡◌, ◌+◌, ◌-◌, ◌*◌, leb};
 ghost use Rattle.format.specs.Basics.{put_at, next_at, le32};
 

@@ -1,6 +1,8 @@
 // The values of a block and their packed size: the port of compression/mod.rs, less the packer (crate bitpacking) and the tail's
 // numbers (crate vint).
 
+#![tactic(auto)]
+
 pub mod values;
 
 ghost use Rattle.std.specs.Prelude.{◌≡◌, ◌*◌};

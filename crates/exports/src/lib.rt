@@ -1,5 +1,7 @@
 // The library for Rust and C: functions of plain numbers and slices. Each answers one number.
 
+#![tactic(auto)]
+
 mod calls;
 mod mark;
 mod reading;

@@ -94,7 +94,7 @@ take_docs-ok option least [] (f ∷ fs) small e t = absurd (omega arith)
 take_docs-ok option least (d ∷ ds) [] small e t = absurd (refused≢ok t)
 take_docs-ok option least (d ∷ ds) (f ∷ fs) small e t =
     let p = and_then-ok _ _ t in
-    in-front small.0 (take_doc-ok option least d f p.1) (take_docs-ok option _ ds fs small.1 (omega arith) p.2)
+    in-front small.0 (take_doc-ok option least d f p.1) (take_docs-ok option p.0 ds fs small.1 (omega arith) p.2)
 
 -- what is known of a list that is written
 pub record Written (mode : ℕ) (recording : Bool) (ds fs bs : List ℕ) : Type 0 where

@@ -53,7 +53,7 @@ unfolding read_f choose onward
 spelled_reads zero rest s h = absurd (not-suc-le-zero (le_trans (spelled_pos s) h))
 spelled_reads (suc most) rest (last {n}) h = rw (le-ltb (n + 128) 128 (omega arith), add-sub_cancel)
 spelled_reads (suc most) rest (more {n} g s) h =
-    rw (lt-ltb (n % 128) 128 (mod-lt n (zero-lt-suc 127)), spelled_reads most rest s (le_of_suc-le-suc h), mod-add-div, one-add)
+    rw (lt-ltb (n % 128) 128 (mod-lt n (zero-lt-suc 127)), spelled_reads {n = n / 128} most rest s (le_of_suc-le-suc h), mod-add-div, one-add)
 
 pub vint-length-pos : (n : ℕ) → 1 ≤ length (vint n)
 unfolding vint

@@ -1,5 +1,7 @@
 // What the definitions of `specs/` share with code: constants, and the types of answers and fields. No function stands here.
 
+#![tactic(auto)]
+
 // The document answered at the end of a list; every id lies below it. Document 01 calls it END.
 pub const TERMINATED: u32 = 2147483647;
 

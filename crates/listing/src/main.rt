@@ -2,6 +2,8 @@
 // prints each document with its frequency and the blocks unpacked so far. No contract can speak of what a program reads and writes, so
 // `list_table` has the whole work on slices, and `main` hands it the bytes read and writes the bytes that it leaves.
 
+#![tactic(auto)]
+
 mod list;
 mod table;
 mod text;

@@ -94,6 +94,8 @@
 //
 //     let n = run_calls(image, term, &[4294967296 + 300, 0], &mut answers);      // opens, seeks 300, steps: 3 answers of `ANSWER_NUMBERS` numbers
 
+#![tactic(auto)]
+
 mod calls;
 
 pub use crate::calls::{

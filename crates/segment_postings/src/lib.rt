@@ -1,6 +1,8 @@
 // The reader of one term's image: the blocks and the cursor over their documents. The port of block_segment_postings.rs and
 // segment_postings.rs.
 
+#![tactic(auto)]
+
 mod core;
 mod counts;
 mod find;

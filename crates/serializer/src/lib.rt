@@ -1,5 +1,7 @@
 // The writer: documents and frequencies in, the bytes of one term's image out. The port of serializer.rs.
 
+#![tactic(auto)]
+
 mod block;
 mod bounds;
 mod core;

@@ -1,6 +1,8 @@
 // Many targets looked up in one reading, with a stand-in for the cursor: the first use of `thin`'s loops over a lent slice. The
 // gate checks it, so that the theorems are shown to apply, until a call over many targets takes its place. Nothing links it.
 
+#![tactic(auto)]
+
 ghost use Rattle.std.specs.Prelude.{◌≡◌};
 ghost use Rattle.thin.specs.Fold.{pass};
 ghost use Rattle.serves.specs.Serve.{asks_one, asks_all, opens, opens_docs, opens_freqs, turns, turns_docs, turns_freqs, ends};

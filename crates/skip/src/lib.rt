@@ -1,4 +1,7 @@
 // Skip entries, read and written, and what they hold by record option.
+
+#![tactic(auto)]
+
 ghost use Rattle.std.specs.Prelude.{◌≡◌, ◌+◌, ◌≤◌, ◌<◌, length, drop};
 ghost use Rattle.format.specs.Basics.{four_bytes};
 ghost use Rattle.format.specs.SkipEntry.{has_freq_of, entry_size_of, freq_width_of, read_entry, width_byte_of, block_size_of, entry_fits_of};

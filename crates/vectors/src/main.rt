@@ -7,6 +7,8 @@
 // The file `stdin` was made by `cargo run --release --bin sample` in differential/, which has tantivy's own code, unchanged, write
 // the images.
 
+#![tactic(auto)]
+
 mod replay;
 mod sample;
 

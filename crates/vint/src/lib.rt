@@ -1,6 +1,8 @@
 // Short numbers (vints): seven bits a byte, lowest first, the top bit set on the last byte alone. The port of common/vint.rs and
 // compression/vint.rs.
 
+#![tactic(auto)]
+
 ghost use Rattle.std.specs.Prelude.{◌≡◌, ◌+◌, ◌≤◌, length, drop};
 ghost use Rattle.format.specs.Basics.{next_at, put_at};
 ghost use Rattle.format.specs.Values.{gaps_from};
