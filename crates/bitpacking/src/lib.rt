@@ -20,7 +20,7 @@ fn word_at(bytes: &[u8], p: usize) -> u32
 
 // What is left of the words read last, one of each lane: the lanes' next bits, the same number of each. The words behind them lie
 // side by side from byte `at` on.
-#[derive(Drop)]
+#[derive(Clone, Copy)]
 struct Left {
     a: u32,
     b: u32,
@@ -211,7 +211,7 @@ fn put_word(area: &mut [u8], p: usize, x: u32)
 
 // What is packed so far of the four lanes and not yet written: the same number of bits of each, less than a word, above as many
 // words already in the area.
-#[derive(Drop)]
+#[derive(Clone, Copy)]
 struct Lanes {
     a: u64,
     b: u64,

@@ -9,7 +9,7 @@ use common::difference;
 use format::TERMINATED;
 
 // What question 6 answers of ids: the last one, 0 where there is none; or that they don't rise.
-#[derive(Drop)]
+#[derive(Clone, Copy)]
 pub enum Restored {
     Rising(u32),
     NotRising,

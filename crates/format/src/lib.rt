@@ -42,7 +42,7 @@ pub const NO_ROOM: u8 = 15;
 pub const STATE_BROKEN: u8 = 16;
 
 // What a list's blocks and skip entries hold.
-#[derive(Drop)]
+#[derive(Clone, Copy)]
 pub enum IndexRecordOption {
     // Documents alone.
     Basic,
@@ -51,7 +51,7 @@ pub enum IndexRecordOption {
 }
 
 // What a skip entry says of its block.
-#[derive(Drop)]
+#[derive(Clone, Copy)]
 pub struct BlockInfo {
     pub last_doc: u32,
     pub doc_width: u8,
@@ -60,7 +60,7 @@ pub struct BlockInfo {
 }
 
 // What is known of an image beside its bytes: its recorded mode and its count; and the mode that a reader requests.
-#[derive(Drop)]
+#[derive(Clone, Copy)]
 pub struct Term {
     pub mode: u8,
     pub requested: u8,
@@ -68,7 +68,7 @@ pub struct Term {
 }
 
 // Where the parts of an image begin, and what its blocks and entries hold.
-#[derive(Drop)]
+#[derive(Clone, Copy)]
 pub struct Layout {
     pub option: IndexRecordOption,
     pub skips: usize,
@@ -76,14 +76,14 @@ pub struct Layout {
 }
 
 // What is read where a number should stand: the number and how many bytes it took; or none within its limits.
-#[derive(Drop)]
+#[derive(Clone, Copy)]
 pub enum VInt {
     Number { value: u64, used: usize },
     Malformed,
 }
 
 // The place behind what was written or read; or that it could not be, for want of room or of bytes.
-#[derive(Drop)]
+#[derive(Clone, Copy)]
 pub enum Next {
     At(usize),
     Refused,

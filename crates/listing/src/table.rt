@@ -6,21 +6,21 @@ ghost use Rattle.listing.specs.Input.{up_to, number, row, names, lines, rows, ta
 use check::same;
 
 // A number that was read; or that there is none.
-#[derive(Drop)]
+#[derive(Clone, Copy)]
 pub enum Number {
     Is(u32),
     Malformed,
 }
 
 // The two numbers of a line; or that it isn't a line of two numbers.
-#[derive(Drop)]
+#[derive(Clone, Copy)]
 pub enum Row {
     Of { first: u32, second: u32 },
     Malformed,
 }
 
 // The order in which the line of names has the two columns; or that it isn't such a line.
-#[derive(Drop)]
+#[derive(Clone, Copy)]
 pub enum Names {
     DocFreq,
     FreqDoc,
@@ -28,7 +28,7 @@ pub enum Names {
 }
 
 // How many rows were read; or that the text isn't a table.
-#[derive(Drop)]
+#[derive(Clone, Copy)]
 pub enum Parsed {
     Rows(usize),
     Malformed,

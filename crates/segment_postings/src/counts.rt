@@ -14,7 +14,7 @@ use crate::{Reached, Value};
 use format::{COMPRESSION_BLOCK_SIZE, Layout, TARGET_TOO_LARGE, TERMINATED, Term};
 
 // The documents at the front of a block that lie below a target: the sum of their frequencies, and whether they are all of its.
-#[derive(Drop)]
+#[derive(Clone, Copy)]
 struct Front {
     freqs: u64,
     whole: bool,

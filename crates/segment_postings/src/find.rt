@@ -12,7 +12,7 @@ use skip::{SkipEntry, block_size, entry_fits, entry_size, read_entry};
 
 // Where a search starts: a block, where its bytes begin, the least id that it may hold, and the entries read and the blocks unpacked by
 // then.
-#[derive(Drop)]
+#[derive(Clone, Copy)]
 pub(crate) struct Start {
     pub block: usize,
     pub at: usize,
@@ -23,7 +23,7 @@ pub(crate) struct Start {
 
 // A block that was found by its entry, not yet unpacked: its number, where its bytes begin, the least id that it may hold, and the
 // entries read by then.
-#[derive(Drop)]
+#[derive(Clone, Copy)]
 pub(crate) struct Found {
     pub block: usize,
     pub at: usize,
@@ -33,7 +33,7 @@ pub(crate) struct Found {
 }
 
 // The block that a search came to; or the number of the question that was answered no.
-#[derive(Drop)]
+#[derive(Clone, Copy)]
 pub(crate) enum Search {
     To(Found),
     Refused(u8),

@@ -13,14 +13,14 @@ use skip::{entry_size, known_mode, record_option};
 use vint::read_vint_u64;
 
 // Where an image's parts begin; or the number of the question that was answered no.
-#[derive(Drop)]
+#[derive(Clone, Copy)]
 pub(crate) enum Laid {
     At(Layout),
     Refused(u8),
 }
 
 // Where the skip bytes and the posting bytes begin; or a skip length that question 3 refuses.
-#[derive(Drop)]
+#[derive(Clone, Copy)]
 enum Split {
     At { skips: usize, postings: usize },
     Broken,

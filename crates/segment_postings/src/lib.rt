@@ -23,7 +23,7 @@ pub use crate::whole::read;
 
 // A position in a list: the block that holds it, unpacked, and the place in that block. Places behind the last document of a list
 // hold TERMINATED and frequency 1. The image, its mode and its count are lent to each call and never kept.
-#[derive(Drop)]
+#[derive(Clone, Copy)]
 pub struct SegmentPostings {
     pub docs: [u32; 128],
     // Between the arrays: calls by value were measured faster so.
@@ -32,7 +32,7 @@ pub struct SegmentPostings {
 }
 
 // A cursor without its arrays: what goes through the functions that are lent them.
-#[derive(Drop)]
+#[derive(Clone, Copy)]
 pub struct Held {
     pub place: usize,
     pub block: usize,
@@ -47,7 +47,7 @@ pub struct Held {
 
 // What a call answers: the document and the frequency at the position, blocks unpacked and entries read; or the number of the
 // question that was answered no.
-#[derive(Drop)]
+#[derive(Clone, Copy)]
 pub enum Answer {
     At {
         doc: u32,
@@ -59,21 +59,21 @@ pub enum Answer {
 }
 
 // An answer with the cursor after it.
-#[derive(Drop)]
+#[derive(Clone, Copy)]
 pub struct Moved {
     pub answer: Answer,
     pub cursor: SegmentPostings,
 }
 
 // Where a call came to; or the number of the question that was answered no.
-#[derive(Drop)]
+#[derive(Clone, Copy)]
 pub enum Reached {
     At(Held),
     Refused(u8),
 }
 
 // A number that was asked for; or the number of the question that was answered no.
-#[derive(Drop)]
+#[derive(Clone, Copy)]
 pub enum Value {
     Is(u64),
     Refused(u8),

@@ -20,7 +20,7 @@ use vint::uncompress_unsorted;
 
 // What was taken of a block, beside its values: how many they are, whether its numbers were all there, what their form rules out, and
 // whether its bytes end where they should.
-#[derive(Drop)]
+#[derive(Clone, Copy)]
 pub struct Taken {
     pub full: bool,
     pub n: usize,
@@ -42,7 +42,7 @@ pub struct Taken {
 }
 
 // How many blocks are unpacked, with one more, and whether the image keeps frequencies; or the number of the question that was answered no.
-#[derive(Drop)]
+#[derive(Clone, Copy)]
 pub(crate) enum Loaded {
     Unpacked { unpacked: usize, kept: bool },
     Refused(u8),

@@ -87,7 +87,7 @@ pub fn seek_in(
 }
 
 // An answer with the cursor's numbers after it.
-#[derive(Drop)]
+#[derive(Clone, Copy)]
 pub(crate) struct Went {
     pub answer: Answer,
     pub held: Held,

@@ -16,14 +16,14 @@ use format::{BlockInfo, IndexRecordOption};
 use skip::{block_size, entry_size, has_freq, write_entry};
 
 // Places in the two areas, for a block's entry and for its values.
-#[derive(Drop)]
+#[derive(Clone, Copy)]
 pub struct Places {
     pub skips: usize,
     pub postings: usize,
 }
 
 // Where the areas reach behind a block; or that one of them has no room for it.
-#[derive(Drop)]
+#[derive(Clone, Copy)]
 pub enum Placed {
     At(Places),
     NoRoom,

@@ -18,7 +18,7 @@ pub use core::{close_term_in, new_term_in, write_doc_in};
 pub use list::{ask_list, write_list};
 
 // A term being written. Finished blocks and their entries lie in two areas that the caller lends to each call.
-#[derive(Drop)]
+#[derive(Clone, Copy)]
 pub struct PostingsSerializer {
     // The documents that wait for their block to fill, and their frequencies.
     pub docs: [u32; 128],
@@ -36,35 +36,35 @@ pub struct PostingsSerializer {
 }
 
 // What a call answers that gives no bytes: yes; or the number of the question that was answered no.
-#[derive(Drop)]
+#[derive(Clone, Copy)]
 pub enum Accepted {
     Yes,
     Refused(u8),
 }
 
 // What a call answers that writes an image: its length; or the number of the question that was answered no.
-#[derive(Drop)]
+#[derive(Clone, Copy)]
 pub enum Written {
     Bytes(usize),
     Refused(u8),
 }
 
 // Whether a term was begun or a document taken, with the state after it.
-#[derive(Drop)]
+#[derive(Clone, Copy)]
 pub struct Step {
     pub answer: Accepted,
     pub state: PostingsSerializer,
 }
 
 // What closing a term answers, with the state after it.
-#[derive(Drop)]
+#[derive(Clone, Copy)]
 pub struct ClosedTerm {
     pub answer: Written,
     pub state: PostingsSerializer,
 }
 
 // The numbers of a state, without the documents that wait: what a call on two lent arrays takes and gives.
-#[derive(Drop)]
+#[derive(Clone, Copy)]
 pub struct Progress {
     pub mode: u8,
     pub recording: bool,
@@ -76,14 +76,14 @@ pub struct Progress {
 }
 
 // Where a call on two lent arrays came to; or the number of the question that was answered no.
-#[derive(Drop)]
+#[derive(Clone, Copy)]
 pub enum Progressed {
     At(Progress),
     Refused(u8),
 }
 
 // What closing a term from two lent arrays answers, with the numbers after it.
-#[derive(Drop)]
+#[derive(Clone, Copy)]
 pub struct ClosedIn {
     pub answer: Written,
     pub progress: Progress,

@@ -21,14 +21,14 @@ use format::{COUNT_MISMATCH, IndexRecordOption, NO_ROOM, UNKNOWN_MODE};
 use skip::{entry_size, has_freq, known_mode, record_option};
 
 // The bytes of a list's entries and of its full blocks.
-#[derive(Drop)]
+#[derive(Clone, Copy)]
 struct Sizes {
     entries: usize,
     blocks: usize,
 }
 
 // Behind how many full blocks a list's tail begins, at which place, and the last id before it, 0 where there is none.
-#[derive(Drop)]
+#[derive(Clone, Copy)]
 struct Tail {
     full: usize,
     at: usize,

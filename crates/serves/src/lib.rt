@@ -12,7 +12,7 @@ ghost use Rattle.serves.specs.Mark.{LeavesMarked};
 
 // A document number that is looked up, and what is found.
 #[repr(C)]
-#[derive(Drop)]
+#[derive(Clone, Copy)]
 pub struct Target {
     pub id: u32,
     pub doc: u32,
@@ -21,7 +21,7 @@ pub struct Target {
 }
 
 #[repr(C)]
-#[derive(Drop)]
+#[derive(Clone, Copy)]
 pub struct Term {
     pub mode: u8,
     pub requested: u8,
@@ -29,7 +29,7 @@ pub struct Term {
 }
 
 // The numbers of the cursor; its two arrays stand beside them.
-#[derive(Drop)]
+#[derive(Clone, Copy)]
 pub struct Numbers {
     pub place: usize,
     pub unpacked: usize,
@@ -37,19 +37,19 @@ pub struct Numbers {
 }
 
 // What came of asking the targets up to one: the refusal so far, and the last id.
-#[derive(Drop)]
+#[derive(Clone, Copy)]
 pub struct Asked {
     pub refusal: u8,
     pub last: u32,
 }
 
-#[derive(Drop)]
+#[derive(Clone, Copy)]
 pub struct Opened {
     pub refusal: u8,
     pub numbers: Numbers,
 }
 
-#[derive(Drop)]
+#[derive(Clone, Copy)]
 pub struct Turn {
     pub refusal: u8,
     pub target: Target,
@@ -57,7 +57,7 @@ pub struct Turn {
 }
 
 #[repr(C)]
-#[derive(Drop)]
+#[derive(Clone, Copy)]
 pub struct Served {
     pub refusal: u8,
     pub served: usize,
@@ -231,13 +231,13 @@ pub extern "C" fn seek_all(targets: &mut [Target], image: &[u8], term: Term) -> 
 
 // ---- the two loops at other types: numbers for the states, other arrays, other parameters
 
-#[derive(Drop)]
+#[derive(Clone, Copy)]
 pub struct Started {
     pub refusal: u8,
     pub next: usize,
 }
 
-#[derive(Drop)]
+#[derive(Clone, Copy)]
 pub struct Marked {
     pub refusal: u8,
     pub target: Target,

@@ -51,7 +51,7 @@ pub fn record_option(mode: u8, recording: bool) -> IndexRecordOption
 }
 
 // What stands at a place of the skip bytes: an entry, or too few bytes for one.
-#[derive(Drop)]
+#[derive(Clone, Copy)]
 pub enum SkipEntry {
     Entry(BlockInfo),
     Missing,

@@ -20,7 +20,7 @@ use crate::sample::{Parsed, case_at, short_at};
 use libc::{STDIN_FILENO, STDOUT_FILENO};
 
 // How many cases were replayed and how many of them differ; or that the input is no sample.
-#[derive(Drop)]
+#[derive(Clone, Copy)]
 pub enum Replayed {
     All { cases: usize, differ: usize },
     Malformed,

@@ -7,7 +7,7 @@ ghost use Rattle.vectors.specs.Sample.{short, words, case_at};
 use common::u32_from_le_bytes;
 
 // A case: its head, where its parts begin, and where it ends.
-#[derive(Drop)]
+#[derive(Clone, Copy)]
 pub struct Case {
     pub mode: u8,
     pub recording: bool,
@@ -19,7 +19,7 @@ pub struct Case {
 }
 
 // What stands at a place: a case that is all there, or none.
-#[derive(Drop)]
+#[derive(Clone, Copy)]
 pub enum Parsed {
     Is(Case),
     Malformed,
