@@ -1,6 +1,6 @@
 -- A walk by steps over a whole image: what its calls answer, and the first refusal that it meets.
 -- Assumes nothing.
-use Rattle.core.specs.Prelude.{◌≡◌, ℕ, zero, suc, ◌+◌, ◌/◌, ◌<◌, min, List, ◌≢◌, slice_index, slice_index_or}
+use Rattle.std.specs.Prelude.{◌≡◌, ℕ, zero, suc, ◌+◌, ◌/◌, ◌<◌, min, List, ◌≢◌, slice_index, slice_index_or}
 use Rattle.format.specs.declared.Term.{Term}
 use Rattle.format.specs.Basics.{TERMINATED}
 use Rattle.format.specs.Layout.{full_blocks_of}

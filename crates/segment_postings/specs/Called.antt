@@ -2,7 +2,7 @@
 -- refused call leaves the cursor, so the next one gets the same again. A call on a lent cursor is the same call: it leaves in the
 -- caller's record what the call by value hands back.
 -- Assumes nothing.
-use Rattle.core.specs.Prelude.{◌≡◌, ℕ, ◌-◌, List, [], ◌∷◌, ◌++◌, length, replicate}
+use Rattle.std.specs.Prelude.{◌≡◌, ℕ, ◌-◌, List, [], ◌∷◌, ◌++◌, length, replicate}
 use Rattle.format.specs.declared.Term.{Term}
 use Rattle.format.specs.Basics.{Outcome}
 use Rattle.format.specs.Model.{Answer as Shown, at, refused, Call, step, seek, State, after, entries_read}

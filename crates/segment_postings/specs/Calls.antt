@@ -1,6 +1,6 @@
 -- How the contracts of the public calls say an outcome: the parts of an image, a cursor in parts, what is lent.
 -- Assumes nothing.
-use Rattle.core.specs.Prelude.{◌≡◌, ℕ, ◌+◌, ◌-◌, ◌/◌, List, [], length, take, drop, ◌==◌, nat_le}
+use Rattle.std.specs.Prelude.{◌≡◌, ℕ, ◌+◌, ◌-◌, ◌/◌, List, [], length, take, drop, ◌==◌, nat_le}
 use Rattle.format.specs.declared.VInt.{VInt}
 use Rattle.format.specs.declared.VInt.TheVariants.{Number, Malformed}
 use Rattle.format.specs.Basics.{Outcome, ok, refused, choose, or_before}

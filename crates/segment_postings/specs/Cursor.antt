@@ -1,6 +1,6 @@
 -- The calls on a cursor: what each answers and leaves, on every input.
 -- Assumes nothing.
-use Rattle.core.specs.Prelude.{ℕ, ◌+◌, ◌*◌, min, Bool, ◌&&◌ as and, ◌||◌ as or, List, length, replicate, ◌==◌, nat_le, nat_lt, slice_index}
+use Rattle.std.specs.Prelude.{ℕ, ◌+◌, ◌*◌, min, Bool, ◌&&◌ as and, ◌||◌ as or, List, length, replicate, ◌==◌, nat_le, nat_lt, slice_index}
 use Rattle.format.specs.declared.Layout.{Layout}
 use Rattle.format.specs.declared.Term.{Term}
 use Rattle.format.specs.Basics.{Outcome, ok, refused, and_then, ask, choose, TERMINATED}

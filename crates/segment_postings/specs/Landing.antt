@@ -1,6 +1,6 @@
 -- The block that a walk or a seek lands on: found by the skip entries alone, then unpacked.
 -- Assumes nothing.
-use Rattle.core.specs.Prelude.{ℕ, zero, suc, ◌+◌, ◌-◌, ◌*◌, false, ◌&&◌ as and, List, ◌++◌, length, drop, replicate, ◌==◌, nat_le, nat_lt}
+use Rattle.std.specs.Prelude.{ℕ, zero, suc, ◌+◌, ◌-◌, ◌*◌, false, ◌&&◌ as and, List, ◌++◌, length, drop, replicate, ◌==◌, nat_le, nat_lt}
 use Rattle.format.specs.declared.BlockInfo.{BlockInfo}
 use Rattle.format.specs.declared.IndexRecordOption.{IndexRecordOption}
 use Rattle.format.specs.declared.Layout.{Layout}

@@ -1,6 +1,6 @@
 -- What a walk to a target passes in a block.
 -- Assumes nothing.
-use Rattle.core.specs.Prelude.{◌≡◌, ℕ, ◌*◌, ◌≤◌, List, length, take, ◌==◌, nat_lt}
+use Rattle.std.specs.Prelude.{◌≡◌, ℕ, ◌*◌, ◌≤◌, List, length, take, ◌==◌, nat_lt}
 use Rattle.format.specs.declared.Term.{Term}
 use Rattle.format.specs.Basics.{choose}
 use Rattle.format.specs.Layout.{full_blocks_of, tail_length}

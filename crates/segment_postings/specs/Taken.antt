@@ -1,7 +1,7 @@
 -- A block's values as they are taken out of an image, and the questions that are asked of them in turn. Ids are taken as differences
 -- (compression/specs/Restored.antt), frequencies as they are, in places of 32 bits: one that is out of range is 0 there.
 -- Assumes nothing.
-use Rattle.core.specs.Prelude.{◌≡◌, ℕ, zero, suc, ◌+◌, ◌-◌, ◌^◌, ◌≤◌, Bool, true, false, not, ◌&&◌ as and, List, ◌++◌, length, take, drop, replicate, ◌==◌, nat_lt}
+use Rattle.std.specs.Prelude.{◌≡◌, ℕ, zero, suc, ◌+◌, ◌-◌, ◌^◌, ◌≤◌, Bool, true, false, not, ◌&&◌ as and, List, ◌++◌, length, take, drop, replicate, ◌==◌, nat_lt}
 use Rattle.format.specs.declared.BlockInfo.{BlockInfo}
 use Rattle.format.specs.declared.Layout.{Layout}
 use Rattle.format.specs.declared.Term.{Term}

@@ -1,7 +1,7 @@
 // The cursor on two lent arrays: opening, leaving a block and a step, with the cursor's numbers by value. Calls on a whole cursor
 // take it apart, lend its arrays and put it together again; loops over many calls use these functions and copy no cursor.
 
-ghost use Rattle.core.specs.Prelude.{◌≡◌, ◌+◌, ◌/◌, ◌^◌, ◌<◌, true, length, ◌==◌};
+ghost use Rattle.std.specs.Prelude.{◌≡◌, ◌+◌, ◌/◌, ◌^◌, ◌<◌, true, length, ◌==◌};
 ghost use Rattle.segment_postings.specs.Landing.{first_start_of, landing};
 ghost use Rattle.segment_postings.specs.Cursor.{position, in_bounds_of, answer_at_of, answering, opening, least_after_of, starts_inside_of, start_behind_of, leaving, held_at, stepping};
 ghost use Rattle.segment_postings.specs.Calls.{cursor_of, Reaches};

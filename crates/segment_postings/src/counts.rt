@@ -1,6 +1,6 @@
 // Total: the sum of the frequencies of the documents below a target.
 
-ghost use Rattle.core.specs.Prelude.{◌≡◌, ◌≤◌, length, take};
+ghost use Rattle.std.specs.Prelude.{◌≡◌, ◌≤◌, length, take};
 ghost use Rattle.format.specs.Basics.{ok};
 ghost use Rattle.format.specs.Layout as layouts;
 ghost use Rattle.format.specs.Counts.{total_in, total};

@@ -1,6 +1,6 @@
 // The block that a walk or a seek lands on, found by the skip entries alone.
 
-ghost use Rattle.core.specs.Prelude.{◌≡◌, ◌+◌, ◌-◌, ◌≤◌, length, drop};
+ghost use Rattle.std.specs.Prelude.{◌≡◌, ◌+◌, ◌-◌, ◌≤◌, length, drop};
 ghost use Rattle.format.specs.SkipEntry.{entry_size_of, read_entry};
 ghost use Rattle.format.specs.Layout.{full_blocks_of, skip_bytes_of};
 ghost use Rattle.segment_postings.specs.Landing.{tail_info_of, find_block_of};

@@ -1,6 +1,6 @@
 // Where the parts of an image lie: questions 1 to 4 of document 01, and the split into skip bytes and posting bytes.
 
-ghost use Rattle.core.specs.Prelude.{◌≡◌, ◌-◌, ◌/◌, ◌≤◌};
+ghost use Rattle.std.specs.Prelude.{◌≡◌, ◌-◌, ◌/◌, ◌≤◌};
 ghost use Rattle.format.specs.Layout.{layout, sized};
 ghost use Rattle.segment_postings.specs.Calls.{split_of, skip_part, posting_part};
 ghost use Rattle.segment_postings.specs.Private.{laid};

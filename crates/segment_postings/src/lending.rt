@@ -1,7 +1,7 @@
 // Calls on a cursor that the caller lends and gets back in its own record. The work is that of the calls by value. The last two are by
 // value again and make theirs on a local cursor that they lend, for callers that hold no reference.
 
-ghost use Rattle.core.specs.Prelude.{◌≡◌};
+ghost use Rattle.std.specs.Prelude.{◌≡◌};
 ghost use Rattle.segment_postings.specs.Cursor.{advanced, sought};
 ghost use Rattle.segment_postings.specs.Calls.{Leaves};
 

@@ -1,6 +1,6 @@
 // A block taken out of an image, and questions 6 to 9 of document 01 asked of it.
 
-ghost use Rattle.core.specs.Prelude.{◌≡◌, ◌+◌, ◌^◌, ◌<◌, true, false, length, take, drop, ◌==◌};
+ghost use Rattle.std.specs.Prelude.{◌≡◌, ◌+◌, ◌^◌, ◌<◌, true, false, length, take, drop, ◌==◌};
 ghost use Rattle.format.specs.Model.{member};
 ghost use Rattle.format.specs.Reading.{keeps_freqs_of};
 ghost use Rattle.segment_postings.specs.Private.{FoundThere, BlockLoaded};

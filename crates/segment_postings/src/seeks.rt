@@ -1,6 +1,6 @@
 // Seeks, on two lent arrays and by value; what a seek and a step by value share; and the rank, which a fresh cursor's seek finds.
 
-ghost use Rattle.core.specs.Prelude.{◌≡◌, ℕ, ◌/◌, ◌<◌, ◌≤◌, true, List, length};
+ghost use Rattle.std.specs.Prelude.{◌≡◌, ℕ, ◌/◌, ◌<◌, ◌≤◌, true, List, length};
 ghost use Rattle.segment_postings.specs.Cursor.{in_bounds_of, within, behind, seeking, sought, seeking_fresh, ranking};
 ghost use Rattle.segment_postings.specs.Called.{called};
 ghost use Rattle.segment_postings.specs.Calls.{cursor_of, Leaves, reached, Reaches, valued};

@@ -1,6 +1,6 @@
 // The cursor over a list's documents, by value: opening, the step, and the document and the frequency at its position.
 
-ghost use Rattle.core.specs.Prelude.{◌≡◌};
+ghost use Rattle.std.specs.Prelude.{◌≡◌};
 ghost use Rattle.segment_postings.specs.Cursor.{blank, opened, advanced, value_at, doc_at, freq_at};
 ghost use Rattle.segment_postings.specs.Calls.{valued};
 

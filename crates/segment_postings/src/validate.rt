@@ -1,6 +1,6 @@
 // Admission: whether an image is sound, which a walk over all its blocks tells.
 
-ghost use Rattle.core.specs.Prelude.{◌≡◌};
+ghost use Rattle.std.specs.Prelude.{◌≡◌};
 ghost use Rattle.format.specs.Basics.{ok};
 ghost use Rattle.format.specs.Layout as layouts;
 ghost use Rattle.format.specs.Reading.{reading, soundness};

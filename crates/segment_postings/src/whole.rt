@@ -1,6 +1,6 @@
 // A whole list read into two lent slices.
 
-ghost use Rattle.core.specs.Prelude.{◌≡◌, ◌+◌, ◌*◌, ◌≤◌, length, take};
+ghost use Rattle.std.specs.Prelude.{◌≡◌, ◌+◌, ◌*◌, ◌≤◌, length, take};
 ghost use Rattle.format.specs.Basics.{put_at};
 ghost use Rattle.segment_postings.specs.Passed.{docs_in_of};
 ghost use Rattle.segment_postings.specs.ReadWhole.{Walks, Written, WholeRead, read_whole};

@@ -1,6 +1,6 @@
 -- The outcomes of `Writer.antt` as the contracts cite them: answer, state and every lent byte.
 -- Assumes nothing.
-use Rattle.core.specs.Prelude.{◌≡◌, ℕ, ◌/◌, Bool, List, [], ◌∷◌, length}
+use Rattle.std.specs.Prelude.{◌≡◌, ℕ, ◌/◌, Bool, List, [], ◌∷◌, length}
 use Rattle.format.specs.declared.IndexRecordOption.{IndexRecordOption}
 use Rattle.format.specs.Basics.{Outcome, ok, refused, put_at, or_before}
 use Rattle.format.specs.Written.{blocks_of}

@@ -1,6 +1,6 @@
 -- How long two areas and an output are always enough for a list of n documents, by whether its frequencies are kept.
 -- Assumes nothing.
-use Rattle.core.specs.Prelude.{ℕ, ◌*◌, ◌/◌, ◌≤◌, List, length}
+use Rattle.std.specs.Prelude.{ℕ, ◌*◌, ◌/◌, ◌≤◌, List, length}
 use Rattle.format.specs.declared.IndexRecordOption.{IndexRecordOption}
 use Rattle.format.specs.declared.IndexRecordOption.TheVariants.{Basic, WithFreqs}
 

@@ -1,6 +1,6 @@
 -- What a list needs to be written: room; and what single calls leave of it.
 -- Assumes nothing.
-use Rattle.core.specs.Prelude.{◌≡◌, ℕ, ◌/◌, ◌<◌, ◌≤◌, Bool, ◌≢◌, List, length}
+use Rattle.std.specs.Prelude.{◌≡◌, ℕ, ◌/◌, ◌<◌, ◌≤◌, Bool, ◌≢◌, List, length}
 use Rattle.format.specs.declared.IndexRecordOption.{IndexRecordOption}
 use Rattle.format.specs.Basics.{ok, refused, put_at}
 use Rattle.format.specs.Refusal.{no_room, count_mismatch}

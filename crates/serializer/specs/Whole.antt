@@ -1,6 +1,6 @@
 -- What the private functions of a whole list want, answer and leave.
 -- Assumes nothing.
-use Rattle.core.specs.Prelude.{◌≡◌, ℕ, ◌+◌, ◌/◌, ◌≤◌, Bool, true, ◌&&◌ as and, List, length, take, drop, nat_le}
+use Rattle.std.specs.Prelude.{◌≡◌, ℕ, ◌+◌, ◌/◌, ◌≤◌, Bool, true, ◌&&◌ as and, List, length, take, drop, nat_le}
 use Rattle.format.specs.declared.IndexRecordOption.{IndexRecordOption}
 use Rattle.format.specs.Basics.{choose, last_of, put_at, fits_at}
 use Rattle.format.specs.Refusal.{no_room}

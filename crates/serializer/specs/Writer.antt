@@ -1,6 +1,6 @@
 -- What the writer's calls answer and leave: the state, the two lent areas and the output, on every input.
 -- Assumes nothing.
-use Rattle.core.specs.Prelude.{ℕ, ◌+◌, ◌-◌, ◌/◌, Bool, not, ◌&&◌ as and, ◌||◌ as or, List, [], ◌∷◌, length, take, replicate, ◌==◌, nat_le, nat_lt, slice_set}
+use Rattle.std.specs.Prelude.{ℕ, ◌+◌, ◌-◌, ◌/◌, Bool, not, ◌&&◌ as and, ◌||◌ as or, List, [], ◌∷◌, length, take, replicate, ◌==◌, nat_le, nat_lt, slice_set}
 use Rattle.format.specs.declared.IndexRecordOption.{IndexRecordOption}
 use Rattle.format.specs.Basics.{Outcome, ok, refused, and_then, ask, choose, last_of, put_at, fits_at, or_before, TERMINATED}
 use Rattle.format.specs.Refusal.{count_mismatch, no_room, state_broken}

@@ -1,6 +1,6 @@
 // A full block: its skip entry into one lent area, its packed values into the other.
 
-ghost use Rattle.core.specs.Prelude.{◌≡◌, ◌+◌, ◌*◌, ◌≤◌, true, ◌&&◌ as and, ◌++◌, length, nat_le};
+ghost use Rattle.std.specs.Prelude.{◌≡◌, ◌+◌, ◌*◌, ◌≤◌, true, ◌&&◌ as and, ◌++◌, length, nat_le};
 ghost use Rattle.format.specs.Basics.{last_of, put_at};
 ghost use Rattle.format.specs.Bitpacking as packing;
 ghost use Rattle.format.specs.SkipEntry.{has_freq_of, entry_size_of, block_size_of, write_entry_of};

@@ -1,7 +1,7 @@
 // Question 16 of document 01: whether the numbers of a lent state are in bounds. It is asked of every waiting document at each call, so
 // its loops have no branch inside: they become vector code.
 
-ghost use Rattle.core.specs.Prelude.{◌≡◌, ℕ, ◌<◌, ◌≤◌, not, ◌&&◌ as and, ◌||◌ as or, List, length, take};
+ghost use Rattle.std.specs.Prelude.{◌≡◌, ℕ, ◌<◌, ◌≤◌, not, ◌&&◌ as and, ◌||◌ as or, List, length, take};
 ghost use Rattle.format.specs.SkipEntry.{has_freq_of};
 ghost use Rattle.format.specs.Values.{rising, countable};
 ghost use Rattle.serializer.specs.Calls.{state_of};

@@ -1,7 +1,7 @@
 // The writer on two lent arrays: beginning a term, one document more and closing, with the state's numbers by value. Calls on a whole
 // state take it apart, lend its arrays and put it together again; loops over many calls use these functions and copy no array.
 
-ghost use Rattle.core.specs.Prelude.{◌≡◌};
+ghost use Rattle.std.specs.Prelude.{◌≡◌};
 ghost use Rattle.format.specs.Accepted.{begin};
 ghost use Rattle.serializer.specs.Calls.{progress_of_of, progressed, state_of, TookIn, ClosedFrom};
 ghost use Rattle.serializer.specs.Writer.{fresh};

@@ -1,6 +1,6 @@
 // One document more: what is asked of it, and the block that it fills.
 
-ghost use Rattle.core.specs.Prelude.{◌≡◌, ◌<◌, ◌≤◌, not, ◌||◌ as or, length, nat_le, slice_set};
+ghost use Rattle.std.specs.Prelude.{◌≡◌, ◌<◌, ◌≤◌, not, ◌||◌ as or, length, nat_le, slice_set};
 ghost use Rattle.format.specs.Accepted.{take_doc};
 ghost use Rattle.format.specs.Basics.{ok};
 ghost use Rattle.format.specs.Basics as basics;

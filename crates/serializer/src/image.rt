@@ -1,6 +1,6 @@
 // A term's image: the skip length and the entries where there is a full block, the blocks, and the tail, at the front of the output.
 
-ghost use Rattle.core.specs.Prelude.{◌≡◌, ℕ, ◌+◌, ◌-◌, ◌≤◌, true, List, length, nat_le};
+ghost use Rattle.std.specs.Prelude.{◌≡◌, ℕ, ◌+◌, ◌-◌, ◌≤◌, true, List, length, nat_le};
 ghost use Rattle.format.specs.SkipEntry.{has_freq_of};
 ghost use Rattle.format.specs.Vint.{vints};
 ghost use Rattle.format.specs.Written.{only_if, head_of, tail_of_of, image_with};

@@ -9,7 +9,7 @@ mod document;
 mod image;
 mod list;
 
-ghost use Rattle.core.specs.Prelude.{◌≡◌};
+ghost use Rattle.std.specs.Prelude.{◌≡◌};
 ghost use Rattle.serializer.specs.Calls.{beginning, progress_of_of, state_of, Took, Closed};
 ghost use Rattle.serializer.specs.Writer as specs;
 

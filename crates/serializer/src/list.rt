@@ -1,6 +1,6 @@
 // A whole list in one call. All questions are asked before a byte is written, so that a refusal leaves everything lent as it was.
 
-ghost use Rattle.core.specs.Prelude.{◌≡◌, ◌+◌, ◌*◌, ◌/◌, ◌≤◌, true, length, take, drop};
+ghost use Rattle.std.specs.Prelude.{◌≡◌, ◌+◌, ◌*◌, ◌/◌, ◌≤◌, true, length, take, drop};
 ghost use Rattle.format.specs.Bitpacking.{width};
 ghost use Rattle.format.specs.SkipEntry.{entry_size_of};
 ghost use Rattle.format.specs.Accepted.{take_docs, written};

@@ -4,7 +4,7 @@
 -- that it meets is `soundness`, which the contract of `validate` answers. Each call of the walk stands on a block that is read, or has
 -- met the refusal (WalkByCalls.antt).
 -- Assumes nothing.
-use Rattle.core.specs.Prelude.{◌≡◌, ℕ, suc, ◌+◌, ◌<◌, ◌≤◌, ◌⊎◌, ◌↔◌, List, length}
+use Rattle.std.specs.Prelude.{◌≡◌, ℕ, suc, ◌+◌, ◌<◌, ◌≤◌, ◌⊎◌, ◌↔◌, List, length}
 use mathlib.Core.Logic.{inl, inr, ⊎_elim}
 use mathlib.Core.Path.{refl, sym, ap, subst, ◌∙◌}
 use native.Mathlib.Nat.{eq-or-lt_of_le}

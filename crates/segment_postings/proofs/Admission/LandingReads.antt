@@ -1,7 +1,7 @@
 -- The block that a walk by landings with target 0 holds is the one that the definitions read at its place, and the next landing
 -- begins where they read on. Where a landing is refused they read no more.
 -- Assumes nothing.
-use Rattle.core.specs.Prelude.{◌≡◌, ℕ, ◌+◌, ◌<◌, ◌≤◌, List, length, take}
+use Rattle.std.specs.Prelude.{◌≡◌, ℕ, ◌+◌, ◌<◌, ◌≤◌, List, length, take}
 use mathlib.Core.Path.{sym, ap, ◌∙◌}
 use native.Mathlib.Decide.{dec_le}
 use native.Mathlib.Omega.{arith}

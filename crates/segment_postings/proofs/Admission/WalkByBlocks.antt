@@ -3,7 +3,7 @@
 -- what the documents and frequencies that are read have at the position. The next landing begins where the definitions read on: it
 -- brings the walk on, or is refused under the number with which the reading ends.
 -- Assumes nothing.
-use Rattle.core.specs.Prelude.{◌≡◌, ℕ, ◌+◌, ◌*◌, ◌<◌, ◌≤◌, min, true, List, [], ◌∷◌, ◌++◌, length, get_or}
+use Rattle.std.specs.Prelude.{◌≡◌, ℕ, ◌+◌, ◌*◌, ◌<◌, ◌≤◌, min, true, List, [], ◌∷◌, ◌++◌, length, get_or}
 use mathlib.Core.List.{append_assoc, append-nil}
 use mathlib.Core.Path.{refl, sym, ap, ◌∙◌}
 use native.Mathlib.Decide.{dec_le}

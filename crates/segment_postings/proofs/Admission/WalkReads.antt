@@ -2,7 +2,7 @@
 -- definitions go by what is left of the skip bytes and of the posting bytes, the search by a block's number and by a place in the image:
 -- one turn of the one is one turn of the other.
 -- Assumes nothing.
-use Rattle.core.specs.Prelude.{◌≡◌, ℕ, suc, ◌+◌, ◌-◌, ◌*◌, ◌<◌, ◌≤◌, Bool, true, false, ◌&&◌ as and, ltb, List, length, drop}
+use Rattle.std.specs.Prelude.{◌≡◌, ℕ, suc, ◌+◌, ◌-◌, ◌*◌, ◌<◌, ◌≤◌, Bool, true, false, ◌&&◌ as and, ltb, List, length, drop}
 use mathlib.Core.Path.{refl, sym, ap, ◌∙◌}
 use Prim.Native.Nat.{zero-le}
 use native.Mathlib.Nat.{mul-add, mul-one, mul-zero, sub-zero}

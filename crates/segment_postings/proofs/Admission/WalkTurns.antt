@@ -1,7 +1,7 @@
 -- A turn of a walk block by block: a landing with target 0 from a start holds the block that the definitions read there, and the start
 -- behind it is where they read on. Where the landing is refused they read no more.
 -- Assumes nothing.
-use Rattle.core.specs.Prelude.{◌≡◌, ℕ, ◌+◌, ◌^◌, ◌<◌, ◌≤◌, min, List, length}
+use Rattle.std.specs.Prelude.{◌≡◌, ℕ, ◌+◌, ◌^◌, ◌<◌, ◌≤◌, min, List, length}
 use mathlib.Core.Path.{refl, sym, ap, ◌∙◌}
 use native.Mathlib.Omega.{arith}
 use Rattle.format.specs.declared.Layout.{Layout}

@@ -1,7 +1,7 @@
 -- How large a total and a rank may be. A count is at most 2147483647 and each frequency at most 4294967295, so that a total, a rank
 -- and a count lie below 2 ^ 63, under the numbers by which exported functions tell a refusal.
 -- Assumes nothing.
-use Rattle.core.specs.Prelude.{◌≡◌, ℕ, zero, suc, ◌+◌, ◌*◌, ◌^◌, ◌<◌, ◌≤◌, Bool, true, List, [], ◌∷◌, length, take, drop}
+use Rattle.std.specs.Prelude.{◌≡◌, ℕ, zero, suc, ◌+◌, ◌*◌, ◌^◌, ◌<◌, ◌≤◌, Bool, true, List, [], ◌∷◌, length, take, drop}
 use mathlib.Core.Path.{refl, sym, ap, ◌∙◌}
 use native.Mathlib.Nat.{le_trans}
 use native.Mathlib.Decide.{dec_le}

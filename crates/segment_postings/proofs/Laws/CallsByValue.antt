@@ -5,7 +5,7 @@
 -- The contracts say each call's outcome as `Reaches`; an outcome with its answer is `moved`. One law over every outcome, and an instance
 -- for each call. The calls by value are proved by it too: what `with_answer` makes of a call on their arrays is what they hand back.
 -- Assumes nothing.
-use Rattle.core.specs.Prelude.{◌≡◌, ℕ, ◌<◌, List}
+use Rattle.std.specs.Prelude.{◌≡◌, ℕ, ◌<◌, List}
 use mathlib.Core.Path.{refl, sym}
 use Rattle.format.specs.declared.Term.{Term}
 use Rattle.format.specs.Basics.{Outcome, ok, or_before}

@@ -1,6 +1,6 @@
 -- The definitions of the cursor, each opened by one turn, so that a proof sees their parts under their names.
 -- Assumes nothing.
-use Rattle.core.specs.Prelude.{◌≡◌, ℕ, zero, suc, ◌+◌, ◌-◌, ◌*◌, ◌&&◌ as and, eqb, ltb, leb, List, length, get_or, drop}
+use Rattle.std.specs.Prelude.{◌≡◌, ℕ, zero, suc, ◌+◌, ◌-◌, ◌*◌, ◌&&◌ as and, eqb, ltb, leb, List, length, get_or, drop}
 use mathlib.Core.Path.{refl}
 use Rattle.format.specs.declared.BlockInfo.{BlockInfo}
 use Rattle.format.specs.declared.IndexRecordOption.{IndexRecordOption}

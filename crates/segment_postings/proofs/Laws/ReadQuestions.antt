@@ -1,7 +1,7 @@
 -- The questions before a whole list is read, in turn: the layout in the requested mode, soundness, room. A sound image is sound in every
 -- known requested mode, so that once its layout is found in the requested one, the walk is refused nothing.
 -- Assumes nothing.
-use Rattle.core.specs.Prelude.{◌≡◌, ℕ, ◌<◌, ◌≤◌, ◌&&◌ as and, eqb, leb, List, length}
+use Rattle.std.specs.Prelude.{◌≡◌, ℕ, ◌<◌, ◌≤◌, ◌&&◌ as and, eqb, leb, List, length}
 use mathlib.Core.Bool.{and-false}
 use mathlib.Core.Path.{refl, sym, ap, ◌∙◌}
 use native.Mathlib.Decide.{dec_le}

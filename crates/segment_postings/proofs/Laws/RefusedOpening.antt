@@ -1,6 +1,6 @@
 -- A refused opening leaves a cursor that every call refuses (16), whatever the image and its term: it is at no place.
 -- Assumes nothing.
-use Rattle.core.specs.Prelude.{◌≡◌, ℕ, ◌<◌, false, List, length}
+use Rattle.std.specs.Prelude.{◌≡◌, ℕ, ◌<◌, false, List, length}
 use mathlib.Core.Path.{sym}
 use native.Mathlib.Omega.{arith}
 use Rattle.format.specs.declared.Term.{Term}

@@ -6,7 +6,7 @@
 -- The argument: a step and a seek up to TERMINATED leave cursor and model together (StepSimulates.antt, SeekSimulates.antt); a target
 -- above it does nothing at the end, and elsewhere both refuse it and stay. A list of calls is by induction.
 -- Assumes nothing.
-use Rattle.core.specs.Prelude.{◌≡◌, ℕ, ◌<◌, ◌≤◌, List, [], ◌∷◌, ◌++◌, map, length, get_or}
+use Rattle.std.specs.Prelude.{◌≡◌, ℕ, ◌<◌, ◌≤◌, List, [], ◌∷◌, ◌++◌, map, length, get_or}
 use mathlib.Core.Logic.{⊎_elim}
 use mathlib.Core.Path.{refl, ap, ap₂, ◌∙◌}
 use native.Mathlib.Nat.{eq-or-lt_of_le}

@@ -3,7 +3,7 @@
 -- since the whole walk got yes there, until an entry's last id is at least the target; else it comes to the tail. Either way the
 -- block landed on loads as the one that the walk read.
 -- Assumes nothing.
-use Rattle.core.specs.Prelude.{◌≡◌, ℕ, zero, suc, ◌+◌, ◌-◌, ◌<◌, ◌≤◌, min, true, List, length, drop}
+use Rattle.std.specs.Prelude.{◌≡◌, ℕ, zero, suc, ◌+◌, ◌-◌, ◌<◌, ◌≤◌, min, true, List, length, drop}
 use mathlib.Core.Logic.{⊎_elim}
 use mathlib.Core.Path.{sym, ap, ◌∙◌}
 use native.Mathlib.Nat.{add_assoc, eq-or-lt_of_le}

@@ -3,7 +3,7 @@
 -- is sound in the requested mode 0 too, with the same documents (Requested.antt), and a seek from the first document goes to the first
 -- that is at least the target. A target above TERMINATED is refused, whatever the image.
 -- Assumes nothing.
-use Rattle.core.specs.Prelude.{◌≡◌, ℕ, ◌<◌, ◌≤◌, List, length}
+use Rattle.std.specs.Prelude.{◌≡◌, ℕ, ◌<◌, ◌≤◌, List, length}
 use mathlib.Core.Path.{sym, ap, ◌∙◌}
 use native.Mathlib.Omega.{arith}
 use Rattle.format.specs.declared.Term.{Term}

@@ -2,7 +2,7 @@
 -- TERMINATED is never refused, and it goes where the model's goes: to the first document that is at least the target, if that lies
 -- behind the position. A target above TERMINATED does nothing at the end and is refused elsewhere.
 -- Assumes nothing.
-use Rattle.core.specs.Prelude.{◌≡◌, ℕ, ◌<◌, ◌≤◌, max, leb, List, get_or}
+use Rattle.std.specs.Prelude.{◌≡◌, ℕ, ◌<◌, ◌≤◌, max, leb, List, get_or}
 use mathlib.Core.Logic.{⊎_elim}
 use mathlib.Core.Path.{refl}
 use native.Mathlib.Nat.{eq-or-lt_of_le}

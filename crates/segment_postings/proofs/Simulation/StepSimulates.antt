@@ -2,7 +2,7 @@
 -- as many blocks as the model has visited, a step leaves them so, and the cursor's answer is the model's. Both counts grow by one just
 -- where the block of the position does.
 -- Assumes nothing.
-use Rattle.core.specs.Prelude.{◌≡◌, ℕ, ◌+◌, ◌/◌, ◌≤◌, min, List, length}
+use Rattle.std.specs.Prelude.{◌≡◌, ℕ, ◌+◌, ◌/◌, ◌≤◌, min, List, length}
 use mathlib.Core.Logic.{⊎_elim}
 use mathlib.Core.Path.{sym, ap, ◌∙◌}
 use native.Mathlib.Nat.{eq-or-lt_of_le}

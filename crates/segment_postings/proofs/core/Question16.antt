@@ -1,6 +1,6 @@
 -- Question 16, taken apart into what it says of each number.
 -- Assumes nothing.
-use Rattle.core.specs.Prelude.{◌≡◌, ℕ, ◌+◌, ◌*◌, ◌/◌, ◌%◌, ◌<◌, ◌≤◌, Bool, true, false, eqb}
+use Rattle.std.specs.Prelude.{◌≡◌, ℕ, ◌+◌, ◌*◌, ◌/◌, ◌%◌, ◌<◌, ◌≤◌, Bool, true, false, eqb}
 use mathlib.Core.Path.{refl, sym}
 use mathlib.Core.Bool.{and-eq-true_iff}
 use native.Mathlib.Nat.{le_trans, le-min, min-le_left, min-le_right}

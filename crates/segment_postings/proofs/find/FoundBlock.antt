@@ -1,7 +1,7 @@
 -- Laws of the search for a block: one turn of it, and what is known of the block that it comes to. Each turn but the last passes one
 -- block over and reads one entry, which passed question 5, so that the bytes of the block, and those of the next, are there.
 -- Assumes nothing.
-use Rattle.core.specs.Prelude.{◌≡◌, ℕ, zero, suc, ◌+◌, ◌-◌, ◌*◌, ◌<◌, ◌≤◌, min, true, false, leb, ◌⊎◌, List, length, drop}
+use Rattle.std.specs.Prelude.{◌≡◌, ℕ, zero, suc, ◌+◌, ◌-◌, ◌*◌, ◌<◌, ◌≤◌, min, true, false, leb, ◌⊎◌, List, length, drop}
 use mathlib.Core.Bool.{and-eq-true_iff}
 use mathlib.Core.Logic.{inl, inr}
 use mathlib.Core.Path.{refl, sym, subst, ◌∙◌}

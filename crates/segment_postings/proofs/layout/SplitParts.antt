@@ -2,7 +2,7 @@
 -- lie inside the image. Each goes by the answers to the same two tests, whether there is a full block and whether the skip length is
 -- above the bytes behind it.
 -- Assumes nothing.
-use Rattle.core.specs.Prelude.{◌≡◌, ℕ, ◌+◌, ◌-◌, ◌*◌, ◌/◌, ◌^◌, ◌<◌, ◌≤◌, true, ◌&&◌ as and, eqb, leb, List, length}
+use Rattle.std.specs.Prelude.{◌≡◌, ℕ, ◌+◌, ◌-◌, ◌*◌, ◌/◌, ◌^◌, ◌<◌, ◌≤◌, true, ◌&&◌ as and, eqb, leb, List, length}
 use mathlib.Core.Path.{refl, sym, ap, subst, ◌∙◌}
 use native.Mathlib.Nat.{add-sub_cancel_left, mul-zero, mul-suc, mul-le-mul_left}
 use native.Mathlib.Omega.{arith}

@@ -1,7 +1,7 @@
 -- The cursor, its answer, a term and the parameters of `advance` and `seek`, as the theorems of `thin` take them.
 -- Assumes nothing.
 use mathlib.Core.Path.{refl}
-use Rattle.core.specs.Prelude.{List, [], ◌∷◌}
+use Rattle.std.specs.Prelude.{List, [], ◌∷◌}
 use mir.Syntax.{w32}
 use denote.Builtin.{u8}
 use denote.Struct.Laws.{owed, owes}

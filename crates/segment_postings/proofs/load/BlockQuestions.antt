@@ -2,7 +2,7 @@
 -- the values, and question 6 is the same (`Differ`); a frequency that is out of range is 0 in its place of 32 bits, and no other is. Of a
 -- full block the numbers are always there and its bytes end where its entry says; of a tail each case is one of the definition's.
 -- Assumes nothing.
-use Rattle.core.specs.Prelude.{◌≡◌, ℕ, zero, suc, ◌+◌, ◌*◌, ◌%◌, ◌^◌, ◌<◌, ◌≤◌, Bool, true, false, not, ◌&&◌ as and, eqb, ltb, List, [], ◌∷◌, ◌++◌, map, length, take, drop, replicate}
+use Rattle.std.specs.Prelude.{◌≡◌, ℕ, zero, suc, ◌+◌, ◌*◌, ◌%◌, ◌^◌, ◌<◌, ◌≤◌, Bool, true, false, not, ◌&&◌ as and, eqb, ltb, List, [], ◌∷◌, ◌++◌, map, length, take, drop, replicate}
 use mathlib.Core.Path.{refl, sym, ap, ap₂, ◌∙◌}
 use mathlib.Core.Bool.{and-true, and-false}
 use mathlib.Core.List.{append-nil}

@@ -3,7 +3,7 @@
 -- there, and one that was taken whole. That no value is 0 where form and width rule it out: BlockQuestions.antt `more-small` (below 2 ^ 31
 -- what is added doesn't wrap) and `strict_nonzero`.
 -- Assumes nothing.
-use Rattle.core.specs.Prelude.{◌≡◌, ℕ, ◌+◌, ◌-◌, ◌*◌, ◌%◌, ◌^◌, ◌<◌, ◌≤◌, Bool, true, false, ◌&&◌ as and, eqb, ltb, List, ◌++◌, map, length, take, drop, replicate}
+use Rattle.std.specs.Prelude.{◌≡◌, ℕ, ◌+◌, ◌-◌, ◌*◌, ◌%◌, ◌^◌, ◌<◌, ◌≤◌, Bool, true, false, ◌&&◌ as and, eqb, ltb, List, ◌++◌, map, length, take, drop, replicate}
 use mathlib.Core.Path.{refl, sym, ap, ◌∙◌}
 use mathlib.Core.Bool.{false≢true}
 use native.Mathlib.Nat.{le_refl, le_of_eq, mod-lt, pow-le-pow_right}

@@ -2,7 +2,7 @@
 -- difference is added: one that is in order leaves what question 6 says of the rest, and one that isn't answers it for all. The last id is
 -- one less than what is kept at the end. Frequencies go the same way, with nothing kept.
 -- Assumes nothing.
-use Rattle.core.specs.Prelude.{◌≡◌, ℕ, zero, suc, ◌+◌, ◌-◌, ◌<◌, ◌≤◌, Bool, true, false, eqb, leb, List, [], ◌∷◌, length, take}
+use Rattle.std.specs.Prelude.{◌≡◌, ℕ, zero, suc, ◌+◌, ◌-◌, ◌<◌, ◌≤◌, Bool, true, false, eqb, leb, List, [], ◌∷◌, length, take}
 use mathlib.Core.Path.{refl, sym, ◌∙◌}
 use mathlib.Core.Bool.{and-false}
 use Prim.Native.Nat.{zero-le}

@@ -1,7 +1,7 @@
 -- What the writer's answers tell of their outcomes: yes, or a number of bytes, of a good one, and a refusal's number of that refusal; and
 -- what an outcome answers.
 -- Assumes nothing.
-use Rattle.core.specs.Prelude.{◌≡◌, ℕ}
+use Rattle.std.specs.Prelude.{◌≡◌, ℕ}
 use mathlib.Core.Path.{refl}
 use native.Mathlib.Omega.{arith}
 use Rattle.format.specs.Basics.{Outcome, ok, refused}

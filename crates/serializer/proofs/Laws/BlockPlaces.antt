@@ -1,7 +1,7 @@
 -- A whole list's full blocks as loops go through them: block n begins at document 128 * n, its ids rise from above those before it,
 -- and it has at most 1024 bytes. The image is the bytes of the blocks with the tail, and its size goes by their sizes alone.
 -- Assumes nothing.
-use Rattle.core.specs.Prelude.{◌≡◌, ℕ, zero, suc, ◌+◌, ◌-◌, ◌*◌, ◌/◌, ◌^◌, ◌<◌, ◌≤◌, true, false, ◌&&◌ as and, leb, List, [], ◌∷◌, length, get_or, take, drop}
+use Rattle.std.specs.Prelude.{◌≡◌, ℕ, zero, suc, ◌+◌, ◌-◌, ◌*◌, ◌/◌, ◌^◌, ◌<◌, ◌≤◌, true, false, ◌&&◌ as and, leb, List, [], ◌∷◌, length, get_or, take, drop}
 use mathlib.Core.Bool.{and-eq-true_iff}
 use mathlib.Core.Path.{refl, sym, ap, ◌∙◌}
 use native.Mathlib.Nat.{zero-add, zero-lt-suc, suc-ne-zero}

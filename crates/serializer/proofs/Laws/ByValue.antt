@@ -1,7 +1,7 @@
 -- A call on a whole state over one on its numbers and arrays: put together again, what that call leaves is what the definition leaves.
 -- A term that either begins is one just begun.
 -- Assumes nothing.
-use Rattle.core.specs.Prelude.{◌≡◌, ℕ, Bool, List, length}
+use Rattle.std.specs.Prelude.{◌≡◌, ℕ, Bool, List, length}
 use mathlib.Core.Path.{refl, sym, ap, subst, ◌∙◌}
 use Rattle.format.specs.Basics.{Outcome, ok, or_before}
 use Rattle.format.specs.Accepted.{begin}

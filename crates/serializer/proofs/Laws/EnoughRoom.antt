@@ -3,7 +3,7 @@
 -- bytes. The skip length, 10 bytes at most, is spared by any full block. No list has more than 2147483647 documents, so that an image is
 -- shorter than 2 ^ 63.
 -- Assumes nothing.
-use Rattle.core.specs.Prelude.{◌≡◌, ℕ, zero, suc, ◌+◌, ◌-◌, ◌*◌, ◌/◌, ◌%◌, ◌^◌, ◌<◌, ◌≤◌, min, Bool, true, false, List, [], ◌∷◌, ◌++◌, length, take, drop}
+use Rattle.std.specs.Prelude.{◌≡◌, ℕ, zero, suc, ◌+◌, ◌-◌, ◌*◌, ◌/◌, ◌%◌, ◌^◌, ◌<◌, ◌≤◌, min, Bool, true, false, List, [], ◌∷◌, ◌++◌, length, take, drop}
 use mathlib.Core.Path.{refl}
 use native.Mathlib.Nat.{le_trans, suc-mul}
 use native.Mathlib.Omega.{arith}

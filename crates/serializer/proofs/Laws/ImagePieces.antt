@@ -1,7 +1,7 @@
 -- Laws of an image in pieces: an image is its head, its blocks and its tail one behind the other, so where all of it fits each piece
 -- does, and the pieces put in turn are the image put at once.
 -- Assumes nothing.
-use Rattle.core.specs.Prelude.{◌≡◌, ℕ, zero, suc, ◌+◌, ◌≤◌, Bool, true, false, leb, List, [], ◌++◌, length}
+use Rattle.std.specs.Prelude.{◌≡◌, ℕ, zero, suc, ◌+◌, ◌≤◌, Bool, true, false, leb, List, [], ◌++◌, length}
 use mathlib.Core.Path.{refl, sym, ap, ◌∙◌}
 use native.Mathlib.Nat.{add-zero, zero-add, lt_of_not-le}
 use native.Mathlib.Decide.{dec_le}

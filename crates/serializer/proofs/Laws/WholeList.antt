@@ -1,7 +1,7 @@
 -- A whole list handed to the writer in one call is written exactly where the definitions write it and the two areas and the output have
 -- room: the call asks for the image first, then for the room. What is written is admitted and reads back, since every written image is.
 -- Assumes nothing.
-use Rattle.core.specs.Prelude.{◌≡◌, ℕ, ◌/◌, ◌^◌, ◌≤◌, Bool, true, ◌&&◌ as and, eqb, ltb, ◌↔◌, List, length}
+use Rattle.std.specs.Prelude.{◌≡◌, ℕ, ◌/◌, ◌^◌, ◌≤◌, Bool, true, ◌&&◌ as and, eqb, ltb, ◌↔◌, List, length}
 use mathlib.Core.Bool.{and-eq-true_iff}
 use mathlib.Core.Path.{refl, sym, ◌∙◌}
 use native.Mathlib.Nat.{zero-add}

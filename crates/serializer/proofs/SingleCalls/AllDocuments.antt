@@ -1,7 +1,7 @@
 -- Documents handed to the writer one by one, from any state that calls reach. What one call answers and leaves is known, and what
 -- lies ahead behind it; so one induction on the documents tells what all the calls answer and leave.
 -- Assumes nothing.
-use Rattle.core.specs.Prelude.{◌≡◌, ℕ, ◌+◌, ◌-◌, ◌^◌, ◌<◌, Bool, true, false, ◌&&◌ as and, List, [], ◌∷◌, ◌++◌, length}
+use Rattle.std.specs.Prelude.{◌≡◌, ℕ, ◌+◌, ◌-◌, ◌^◌, ◌<◌, Bool, true, false, ◌&&◌ as and, List, [], ◌∷◌, ◌++◌, length}
 use mathlib.Core.Bool.{and-eq-true_iff, false≢true}
 use mathlib.Core.List.{append-nil}
 use mathlib.Core.Path.{refl, sym, ◌∙◌}

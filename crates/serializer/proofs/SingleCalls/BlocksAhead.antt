@@ -2,7 +2,7 @@
 -- document that waits; behind one that fills a block it is that block less. An area that is written block after block holds the
 -- blocks one behind the other, and has room for all of them where it has room for each in turn.
 -- Assumes nothing.
-use Rattle.core.specs.Prelude.{◌≡◌, ℕ, zero, suc, ◌+◌, ◌/◌, ◌≤◌, Bool, true, false, ◌&&◌ as and, List, [], ◌∷◌, ◌++◌, length, take, drop}
+use Rattle.std.specs.Prelude.{◌≡◌, ℕ, zero, suc, ◌+◌, ◌/◌, ◌≤◌, Bool, true, false, ◌&&◌ as and, List, [], ◌∷◌, ◌++◌, length, take, drop}
 use mathlib.Core.Bool.{and-false}
 use mathlib.Core.List.{append_assoc}
 use mathlib.Core.Path.{refl, sym, ◌∙◌}

@@ -2,7 +2,7 @@
 -- definitions accept a document and the areas have room for its block; behind the last one the areas hold the full blocks and their
 -- entries, and the state the tail, so that closing puts together the image.
 -- Assumes nothing.
-use Rattle.core.specs.Prelude.{◌≡◌, ℕ, suc, ◌+◌, ◌-◌, ◌/◌, ◌^◌, ◌<◌, ◌≤◌, Bool, true, false, eqb, ◌⊎◌, List, [], ◌∷◌, ◌++◌, length, take}
+use Rattle.std.specs.Prelude.{◌≡◌, ℕ, suc, ◌+◌, ◌-◌, ◌/◌, ◌^◌, ◌<◌, ◌≤◌, Bool, true, false, eqb, ◌⊎◌, List, [], ◌∷◌, ◌++◌, length, take}
 use mathlib.Core.Bool.{and-false}
 use mathlib.Core.List.{append-nil}
 use mathlib.Core.Logic.{inl, inr}

@@ -1,7 +1,7 @@
 -- Laws of a block and its entry in their areas: a part that is lent from a place on and put back with bytes at its front is the
 -- whole with the bytes at that place; packed values that fit are put whole, and one part behind the other they are both put.
 -- Assumes nothing.
-use Rattle.core.specs.Prelude.{◌≡◌, ℕ, suc, ◌+◌, ◌-◌, ◌*◌, ◌^◌, ◌<◌, ◌≤◌, Bool, true, false, ◌&&◌ as and, leb, List, [], ◌∷◌, ◌++◌, length, get_or, take, drop}
+use Rattle.std.specs.Prelude.{◌≡◌, ℕ, suc, ◌+◌, ◌-◌, ◌*◌, ◌^◌, ◌<◌, ◌≤◌, Bool, true, false, ◌&&◌ as and, leb, List, [], ◌∷◌, ◌++◌, length, get_or, take, drop}
 use mathlib.Core.Path.{refl, ap, ap₂, ◌∙◌}
 use mathlib.Core.Bool.{and-eq-true_iff}
 use mathlib.Core.List.{append-nil}

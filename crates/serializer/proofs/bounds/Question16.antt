@@ -1,7 +1,7 @@
 -- Question 16, asked in turn; and what a yes says of a state: few documents wait, their ids rise, and the areas reach no further than
 -- their slices.
 -- Assumes nothing.
-use Rattle.core.specs.Prelude.{◌≡◌, ℕ, ◌<◌, ◌≤◌, Bool, true, false, not, ◌&&◌ as and, ◌||◌ as or, leb}
+use Rattle.std.specs.Prelude.{◌≡◌, ℕ, ◌<◌, ◌≤◌, Bool, true, false, not, ◌&&◌ as and, ◌||◌ as or, leb}
 use mathlib.Core.Path.{sym}
 use mathlib.Core.Bool.{and_assoc, and-eq-true_iff}
 use borrow.Author.Tests.{leb-true, le-leb, lt-leb}

@@ -2,7 +2,7 @@
 -- which each lies above the one before it, where the first is at least `least` and the last lies below TERMINATED: no other is less than
 -- the first or more than the last. A walk carries what it found so far, and what is asked of all is that and what is asked of the rest.
 -- Assumes nothing.
-use Rattle.core.specs.Prelude.{◌≡◌, ℕ, zero, suc, ◌+◌, ◌-◌, ◌<◌, ◌≤◌, Bool, true, false, not, ◌&&◌ as and, eqb, ltb, leb, List, [], ◌∷◌, length, get_or, drop}
+use Rattle.std.specs.Prelude.{◌≡◌, ℕ, zero, suc, ◌+◌, ◌-◌, ◌<◌, ◌≤◌, Bool, true, false, not, ◌&&◌ as and, eqb, ltb, leb, List, [], ◌∷◌, length, get_or, drop}
 use mathlib.Core.Bool.{and_assoc, and-true, and-false}
 use mathlib.Core.Path.{refl, sym, ◌∙◌}
 use native.Mathlib.Decide.{dec_lt}

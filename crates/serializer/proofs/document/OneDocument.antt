@@ -2,7 +2,7 @@
 -- than its place in the list, so that one that is accepted can still be counted. A document is refused as the definitions refuse
 -- it; or it waits; or it fills a block, which goes into the areas where there is room.
 -- Assumes nothing.
-use Rattle.core.specs.Prelude.{◌≡◌, ℕ, suc, ◌+◌, ◌^◌, ◌<◌, ◌≤◌, true, not, ◌&&◌ as and, ◌||◌ as or, ltb, leb, List, [], ◌∷◌, ◌++◌, length, take, set}
+use Rattle.std.specs.Prelude.{◌≡◌, ℕ, suc, ◌+◌, ◌^◌, ◌<◌, ◌≤◌, true, not, ◌&&◌ as and, ◌||◌ as or, ltb, leb, List, [], ◌∷◌, ◌++◌, length, take, set}
 use mathlib.Core.List.{append-nil}
 use mathlib.Core.Path.{refl, sym, ◌∙◌}
 use native.Mathlib.Nat.{zero-lt-suc}

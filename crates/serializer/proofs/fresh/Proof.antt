@@ -1,7 +1,7 @@
 -- `serializer::fresh` meets its contract: the numbers of a state that holds no document, put together with two arrays of zeros.
 -- Assumes nothing.
 use mathlib.Core.Path.{ap, ◌∙◌}
-use Rattle.core.specs.Prelude.{replicate}
+use Rattle.std.specs.Prelude.{replicate}
 use borrow.Author.Rules.{rules}
 use Rattle.serializer.specs.declared.Progress.{Progress}
 use Rattle.serializer.specs.Calls.{progress_of_of, state_of}

@@ -1,7 +1,7 @@
 -- The full blocks of a list, taken off the front block by block, so that each law is one induction on their number. Blocks of m + n are
 -- those of the first m and those of the n behind them, which begin above the last id of the first m.
 -- Assumes nothing.
-use Rattle.core.specs.Prelude.{◌≡◌, ℕ, zero, suc, ◌+◌, ◌-◌, ◌*◌, ◌<◌, ◌≤◌, List, [], ◌∷◌, ◌++◌, length, take, drop}
+use Rattle.std.specs.Prelude.{◌≡◌, ℕ, zero, suc, ◌+◌, ◌-◌, ◌*◌, ◌<◌, ◌≤◌, List, [], ◌∷◌, ◌++◌, length, take, drop}
 use mathlib.Core.List.{append_assoc, append-nil}
 use mathlib.Core.Path.{refl}
 use native.Mathlib.Nat.{not-suc-le-zero, zero-add, suc-add, add-sub_of_le}

@@ -1,7 +1,7 @@
 -- A whole list's outcome, question by question: where one is answered no the list is refused and nothing is written, and where all
 -- are answered yes the blocks in their areas and the tail make the image.
 -- Assumes nothing.
-use Rattle.core.specs.Prelude.{◌≡◌, ℕ, ◌≤◌, Bool, true, false, ◌&&◌ as and, eqb, leb, List, length, take}
+use Rattle.std.specs.Prelude.{◌≡◌, ℕ, ◌≤◌, Bool, true, false, ◌&&◌ as and, eqb, leb, List, length, take}
 use mathlib.Core.Bool.{and-eq-true_iff}
 use mathlib.Core.Path.{refl, sym, ap, ◌∙◌}
 use borrow.Author.Tests.{eq-eqb, ne_eqb, eqb-true}

@@ -1,6 +1,6 @@
 -- `segment_postings::core::advance_in` meets its contract: its tests are the definition's, in turn.
 -- Assumes nothing.
-use Rattle.core.specs.Prelude.{◌≡◌, true, length}
+use Rattle.std.specs.Prelude.{◌≡◌, true, length}
 use mathlib.Core.Path.{sym, ◌∙◌}
 use native.Mathlib.Omega.{arith}
 use borrow.Author.Tests.{not-true, not-false}

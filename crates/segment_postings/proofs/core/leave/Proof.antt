@@ -1,7 +1,7 @@
 -- `segment_postings::core::leave` meets its contract: another block is a landing from the next one on, once questions 1 to 4 are
 -- answered again and the next block begins inside the posting bytes. The cursor's numbers are in bounds, so that no sum wraps.
 -- Assumes nothing.
-use Rattle.core.specs.Prelude.{◌≡◌, ◌+◌, ◌^◌, ◌<◌, length}
+use Rattle.std.specs.Prelude.{◌≡◌, ◌+◌, ◌^◌, ◌<◌, length}
 use mathlib.Core.Path.{sym, ◌∙◌}
 use native.Mathlib.Omega.{arith}
 use borrow.Author.Tests.{not-true, not-false}

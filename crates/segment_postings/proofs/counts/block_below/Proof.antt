@@ -1,6 +1,6 @@
 -- `segment_postings::counts::block_below` meets its contract: the arrays' fronts are as long as the block.
 -- Assumes nothing.
-use Rattle.core.specs.Prelude.{◌≡◌, ◌≤◌, length, take}
+use Rattle.std.specs.Prelude.{◌≡◌, ◌≤◌, length, take}
 use mathlib.Core.Path.{sym}
 use native.Mathlib.Omega.{arith}
 use lib.Seq.{length-take-le}

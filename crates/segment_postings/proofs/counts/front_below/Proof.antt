@@ -1,7 +1,7 @@
 -- `segment_postings::counts::front_below` meets its contract. The loop's invariant: i documents are passed, so that those below the
 -- target are i and the ones below it at the front of the rest; their frequencies are summed up, each below 2 ^ 32.
 -- Assumes nothing.
-use Rattle.core.specs.Prelude.{◌≡◌, ℕ, ◌+◌, ◌-◌, ◌*◌, ◌≤◌, length, get_or, take, drop}
+use Rattle.std.specs.Prelude.{◌≡◌, ℕ, ◌+◌, ◌-◌, ◌*◌, ◌≤◌, length, get_or, take, drop}
 use mathlib.Core.Path.{refl, sym, ap, ◌∙◌}
 use native.Mathlib.Nat.{zero-add}
 use native.Mathlib.Omega.{arith}

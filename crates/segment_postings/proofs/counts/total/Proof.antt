@@ -1,7 +1,7 @@
 -- `segment_postings::counts::total` meets its contract: question 10, those of the layout, and then the walk.
 -- Assumes nothing.
 use mathlib.Core.Path.{sym, ap, ◌∙◌}
-use Rattle.core.specs.Prelude.{ℕ}
+use Rattle.std.specs.Prelude.{ℕ}
 use Rattle.format.specs.Basics.{Outcome}
 use Rattle.segment_postings.specs.Calls.{valued}
 use Rattle.segment_postings.proofs.Laws.LandingParts.{laid-at, laid-refused}

@@ -2,7 +2,7 @@
 -- was passed with the total of what is read from the block on. The measure is the full blocks left.
 -- Assumes nothing.
 use mathlib.Core.Path.{sym, ap}
-use Rattle.core.specs.Prelude.{ℕ, ◌-◌, ◌^◌, ◌<◌}
+use Rattle.std.specs.Prelude.{ℕ, ◌-◌, ◌^◌, ◌<◌}
 use native.Mathlib.Omega.{arith}
 use borrow.Author.Tests.{not-true, not-false}
 use Rattle.format.specs.Basics.{Outcome}

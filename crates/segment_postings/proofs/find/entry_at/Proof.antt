@@ -1,6 +1,6 @@
 -- `segment_postings::find::entry_at` meets its contract: an entry within the bytes is never missing.
 -- Assumes nothing.
-use Rattle.core.specs.Prelude.{◌≡◌, ℕ, drop}
+use Rattle.std.specs.Prelude.{◌≡◌, ℕ, drop}
 use mathlib.Core.Path.{sym, ◌∙◌}
 use native.Mathlib.Omega.{arith}
 use borrow.Author.Rules.{rules}

@@ -2,7 +2,7 @@
 -- from the first gives, the present entry stands at its place of the skip bytes, and the block's bytes begin inside the image. An entry
 -- that passed question 5 has its block's bytes inside the image and a last id below TERMINATED, so neither the next place nor the next
 -- least id wraps. The measure is the blocks left. Assumes nothing.
-use Rattle.core.specs.Prelude.{◌≡◌, ℕ, ◌+◌, ◌-◌, ◌*◌, ◌^◌, ◌<◌, ◌≤◌, Bool, true, List, length, take, drop}
+use Rattle.std.specs.Prelude.{◌≡◌, ℕ, ◌+◌, ◌-◌, ◌*◌, ◌^◌, ◌<◌, ◌≤◌, Bool, true, List, length, take, drop}
 use mathlib.Core.Path.{refl, sym, ap, ◌∙◌}
 use native.Mathlib.Nat.{mul-le-mul_right, mul-suc}
 use native.Mathlib.Numerals.{add-one}

@@ -1,7 +1,7 @@
 -- `segment_postings::layout::lay_out` meets its contract: its tests are questions 1 and 2, and behind them the layout stands at the
 -- places of the split.
 -- Assumes nothing.
-use Rattle.core.specs.Prelude.{◌≡◌, ℕ, true, ◌&&◌ as and, leb, List}
+use Rattle.std.specs.Prelude.{◌≡◌, ℕ, true, ◌&&◌ as and, leb, List}
 use mathlib.Core.Logic.{⊎_elim}
 use mathlib.Core.Path.{refl, sym, ap, ◌∙◌}
 use borrow.Author.Rules.{rules}

@@ -1,7 +1,7 @@
 -- `segment_postings::layout::lay_out_entries` meets its contract: its test is the definition's, and 8 bytes for each of at most 2 ^ 25
 -- blocks don't wrap.
 -- Assumes nothing.
-use Rattle.core.specs.Prelude.{◌≡◌, ℕ, ◌+◌, ◌-◌, ◌*◌, eqb}
+use Rattle.std.specs.Prelude.{◌≡◌, ℕ, ◌+◌, ◌-◌, ◌*◌, eqb}
 use native.Mathlib.Nat.{mul-le-mul_right}
 use native.Mathlib.Omega.{arith}
 use borrow.Author.Rules.{rules}

@@ -1,6 +1,6 @@
 -- `segment_postings::layout::posting_bytes` meets its contract: the part lies at the places of the split, which are inside the image.
 -- Assumes nothing.
-use Rattle.core.specs.Prelude.{◌≡◌, ℕ, List}
+use Rattle.std.specs.Prelude.{◌≡◌, ℕ, List}
 use mathlib.Core.Path.{sym, ◌∙◌}
 use native.Mathlib.Nat.{le_of_eq}
 use borrow.Author.Rules.{rules}

@@ -1,6 +1,6 @@
 -- `segment_postings::layout::skip_bytes` meets its contract: the part lies at the places of the split, which are inside the image.
 -- Assumes nothing.
-use Rattle.core.specs.Prelude.{◌≡◌, ℕ, List}
+use Rattle.std.specs.Prelude.{◌≡◌, ℕ, List}
 use mathlib.Core.Path.{sym, ◌∙◌}
 use borrow.Author.Rules.{rules}
 use Rattle.segment_postings.specs.declared.layout.Split.TheVariants.{At}

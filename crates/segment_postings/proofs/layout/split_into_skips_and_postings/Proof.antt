@@ -1,7 +1,7 @@
 -- `segment_postings::layout::split_into_skips_and_postings` meets its contract: its tests are the definition's. A number that was read
 -- lies inside the image, so no difference or sum of places wraps.
 -- Assumes nothing.
-use Rattle.core.specs.Prelude.{◌≡◌, ℕ, ◌/◌, ◌^◌, List}
+use Rattle.std.specs.Prelude.{◌≡◌, ℕ, ◌/◌, ◌^◌, List}
 use mathlib.Core.Path.{sym, ◌∙◌}
 use borrow.Author.Rules.{rules}
 use borrow.Author.Tests.{eq-eqb, ne_eqb, le-leb, lt-leb}

@@ -1,7 +1,7 @@
 -- `segment_postings::load::ask_docs` meets its contract: `restore_docs` answers whether the ids are in order and which is the last, which is
 -- compared where the block has an entry.
 -- Assumes nothing.
-use Rattle.core.specs.Prelude.{◌≡◌, ℕ, Bool, true, false, eqb, List, ◌++◌, take, drop}
+use Rattle.std.specs.Prelude.{◌≡◌, ℕ, Bool, true, false, eqb, List, ◌++◌, take, drop}
 use mathlib.Core.Path.{refl, sym, ◌∙◌}
 use mathlib.Core.Logic.{⊎_elim}
 use native.Mathlib.Omega.{arith}

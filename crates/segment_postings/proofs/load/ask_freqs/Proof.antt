@@ -1,6 +1,6 @@
 -- `segment_postings::load::ask_freqs` meets its contract: question 7 is answered by whether one is 0, which isn't asked where it is known.
 -- Assumes nothing.
-use Rattle.core.specs.Prelude.{◌≡◌, false, take}
+use Rattle.std.specs.Prelude.{◌≡◌, false, take}
 use mathlib.Core.Path.{sym, ◌∙◌}
 use mathlib.Core.Logic.{⊎_elim}
 use borrow.Author.Rules.{rules}

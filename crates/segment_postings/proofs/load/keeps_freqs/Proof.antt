@@ -1,7 +1,7 @@
 -- `segment_postings::load::keeps_freqs` meets its contract: its tests are those of the definition, each where the ones before it
 -- left it to decide.
 -- Assumes nothing.
-use Rattle.core.specs.Prelude.{◌≡◌, ℕ, Bool, true, not, ◌&&◌ as and, eqb, ltb, List, length}
+use Rattle.std.specs.Prelude.{◌≡◌, ℕ, Bool, true, not, ◌&&◌ as and, eqb, ltb, List, length}
 use mathlib.Core.Path.{sym, ◌∙◌}
 use mathlib.Core.Logic.{⊎_elim}
 use borrow.Author.Rules.{rules}

@@ -1,6 +1,6 @@
 -- `segment_postings::load::none_left` meets its contract: behind a place there are as many bytes as the length exceeds it.
 -- Assumes nothing.
-use Rattle.core.specs.Prelude.{◌≡◌, ℕ, ◌-◌, ◌≤◌, eqb, leb}
+use Rattle.std.specs.Prelude.{◌≡◌, ℕ, ◌-◌, ◌≤◌, eqb, leb}
 use native.Mathlib.Decide.{dec_le}
 use native.Mathlib.Nat.{sub-eq-zero_of_le}
 use native.Mathlib.Omega.{arith}

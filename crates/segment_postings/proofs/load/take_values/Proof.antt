@@ -1,7 +1,7 @@
 -- `segment_postings::load::take_values` meets its contract. Each way to a return is a case of `TakeValuesCases.antt`; the places of the ways
 -- give what that case asks.
 -- Assumes nothing.
-use Rattle.core.specs.Prelude.{◌≡◌, ℕ, ◌+◌, ◌*◌, ◌%◌, ◌<◌, ◌≤◌, Bool, true, false, ◌&&◌ as and, eqb, ltb, List, ◌++◌, map, length, take, drop, replicate}
+use Rattle.std.specs.Prelude.{◌≡◌, ℕ, ◌+◌, ◌*◌, ◌%◌, ◌<◌, ◌≤◌, Bool, true, false, ◌&&◌ as and, eqb, ltb, List, ◌++◌, map, length, take, drop, replicate}
 use mathlib.Core.Path.{sym, ap, ◌∙◌}
 use mathlib.Core.Bool.{false≢true, and-false}
 use mathlib.Core.Logic.{⊎_elim}

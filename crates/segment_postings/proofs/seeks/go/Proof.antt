@@ -1,7 +1,7 @@
 -- `segment_postings::seeks::go` meets its contract: on either way the call on the arrays is the call by value that the definition names, and
 -- `with_answer` gives its answer and its numbers.
 -- Assumes nothing.
-use Rattle.core.specs.Prelude.{◌≡◌, ℕ, ◌<◌, Bool, true, false, List}
+use Rattle.std.specs.Prelude.{◌≡◌, ℕ, ◌<◌, Bool, true, false, List}
 use mathlib.Core.Logic.{⊎_elim}
 use borrow.Author.Rules.{rules}
 use Rattle.format.specs.declared.Term.{Term}

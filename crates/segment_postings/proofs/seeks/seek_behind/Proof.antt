@@ -1,7 +1,7 @@
 -- `segment_postings::seeks::seek_behind` meets its contract: from a full block, the block that `leave_whole` came to, and what the search
 -- answers in it.
 -- Assumes nothing.
-use Rattle.core.specs.Prelude.{◌/◌, ◌<◌}
+use Rattle.std.specs.Prelude.{◌/◌, ◌<◌}
 use native.Mathlib.Omega.{arith}
 use borrow.Author.Rules.{rules}
 use Rattle.segment_postings.proofs.Laws.LandingParts.{none-reached, reaches_as}

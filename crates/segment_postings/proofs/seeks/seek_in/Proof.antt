@@ -1,6 +1,6 @@
 -- `segment_postings::seeks::seek_in` meets its contract: its tests are the definition's, in turn.
 -- Assumes nothing.
-use Rattle.core.specs.Prelude.{◌≡◌, true, false, eqb, length}
+use Rattle.std.specs.Prelude.{◌≡◌, true, false, eqb, length}
 use mathlib.Core.Path.{sym, ◌∙◌}
 use native.Mathlib.Omega.{arith}
 use borrow.Author.Rules.{rules}

@@ -1,6 +1,6 @@
 -- `segment_postings::segment_postings::value_at` meets its contract: its tests are the definition's, in turn.
 -- Assumes nothing.
-use Rattle.core.specs.Prelude.{◌≡◌, ◌<◌, true, false, length}
+use Rattle.std.specs.Prelude.{◌≡◌, ◌<◌, true, false, length}
 use mathlib.Core.Path.{sym, ◌∙◌}
 use native.Mathlib.Omega.{arith}
 use borrow.Author.Tests.{not-true, not-false}

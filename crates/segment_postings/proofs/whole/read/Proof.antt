@@ -1,6 +1,6 @@
 -- `segment_postings::whole::read` meets its contract: the questions in turn, and then the walk, which nothing refuses.
 -- Assumes nothing.
-use Rattle.core.specs.Prelude.{◌≡◌, length}
+use Rattle.std.specs.Prelude.{◌≡◌, length}
 use mathlib.Core.Path.{sym, ◌∙◌}
 use borrow.Author.Rules.{rules}
 use Rattle.format.specs.Basics.{ok}

@@ -3,7 +3,7 @@
 -- the full blocks left.
 -- Assumes nothing.
 use mathlib.Core.Path.{sym}
-use Rattle.core.specs.Prelude.{◌-◌, ◌^◌, ◌<◌}
+use Rattle.std.specs.Prelude.{◌-◌, ◌^◌, ◌<◌}
 use native.Mathlib.Omega.{arith}
 use Rattle.format.specs.Layout.{full_blocks_of}
 use Rattle.segment_postings.proofs.Admission.LandingReads.{BlockHeld}

@@ -1,7 +1,7 @@
 -- `serializer::block::write_block` meets its contract: the values are the block's own and so is what its entry says, so what is tested
 -- is whether its bytes fit, and what is written are its bytes.
 -- Assumes nothing.
-use Rattle.core.specs.Prelude.{◌≡◌, true}
+use Rattle.std.specs.Prelude.{◌≡◌, true}
 use mathlib.Core.Path.{sym, ◌∙◌}
 use borrow.Author.Tests.{not-true, not-false}
 use borrow.Author.Rules.{rules}

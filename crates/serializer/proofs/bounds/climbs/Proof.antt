@@ -1,7 +1,7 @@
 -- `serializer::bounds::climbs` meets its contract. The invariant: the ids climb if those before place i did and those from the one before
 -- it on do. The measure is the ids left.
 -- Assumes nothing.
-use Rattle.core.specs.Prelude.{◌≡◌, ◌-◌, ◌≤◌, ◌&&◌ as and, length, drop}
+use Rattle.std.specs.Prelude.{◌≡◌, ◌-◌, ◌≤◌, ◌&&◌ as and, length, drop}
 use mathlib.Core.Path.{refl}
 use native.Mathlib.Omega.{arith}
 use Rattle.serializer.specs.Pieces.{climbing}

@@ -1,7 +1,7 @@
 -- `serializer::bounds::climbs_counted` meets its contract. The invariant: the ids climb and the frequencies count if those before place i did
 -- and those from there on do, of the ids from the one before it on. The measure is the documents left.
 -- Assumes nothing.
-use Rattle.core.specs.Prelude.{◌≡◌, ◌-◌, ◌≤◌, ◌&&◌ as and, length, get_or}
+use Rattle.std.specs.Prelude.{◌≡◌, ◌-◌, ◌≤◌, ◌&&◌ as and, length, get_or}
 use native.Mathlib.Omega.{arith}
 use Rattle.format.specs.Values.{countable}
 use Rattle.serializer.specs.Pieces.{climbing}

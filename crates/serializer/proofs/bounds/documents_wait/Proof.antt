@@ -2,7 +2,7 @@
 -- before it; and where frequencies are kept, whether each is at least 1.
 -- Assumes nothing.
 use mathlib.Core.Bool.{or-true, and-true}
-use Rattle.core.specs.Prelude.{◌≡◌}
+use Rattle.std.specs.Prelude.{◌≡◌}
 use mathlib.Core.Path.{sym, ◌∙◌}
 use native.Mathlib.Omega.{arith}
 use borrow.Author.Rules.{rules}

@@ -1,6 +1,6 @@
 -- `serializer::bounds::in_bounds` meets its contract: each test is a part of the question, and the first no answers it.
 -- Assumes nothing.
-use Rattle.core.specs.Prelude.{◌≡◌, not, ◌&&◌ as and, ◌||◌ as or, leb, length}
+use Rattle.std.specs.Prelude.{◌≡◌, not, ◌&&◌ as and, ◌||◌ as or, leb, length}
 use mathlib.Core.Path.{sym, ap, ap₂, ◌∙◌}
 use native.Mathlib.Omega.{arith}
 use lib.Seq.{length-take-le}

@@ -1,6 +1,6 @@
 -- `serializer::core::close_term_in` meets its contract: the questions in turn, and then whether the image fits, which `put_term` says.
 -- Assumes nothing.
-use Rattle.core.specs.Prelude.{◌≡◌, true}
+use Rattle.std.specs.Prelude.{◌≡◌, true}
 use mathlib.Core.Path.{sym, ◌∙◌}
 use borrow.Author.Tests.{not-true, not-false}
 use borrow.Author.Rules.{rules}

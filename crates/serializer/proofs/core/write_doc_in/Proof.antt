@@ -1,7 +1,7 @@
 -- `serializer::core::write_doc_in` meets its contract: what is asked refuses the document, or says that it may be taken; then it waits, or
 -- it fills a block.
 -- Assumes nothing.
-use Rattle.core.specs.Prelude.{◌≡◌, ◌<◌, length}
+use Rattle.std.specs.Prelude.{◌≡◌, ◌<◌, length}
 use borrow.Author.Rules.{rules}
 use Rattle.format.specs.Basics.{ok, TERMINATED}
 use Rattle.serializer.specs.declared.PostingsSerializer.{PostingsSerializer}

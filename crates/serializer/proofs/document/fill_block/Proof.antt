@@ -1,7 +1,7 @@
 -- `serializer::document::fill_block` meets its contract: the block rises, since the waiting ids do and this one lies above them; whether it
 -- had room decides what is left, and `write_block` says so.
 -- Assumes nothing.
-use Rattle.core.specs.Prelude.{◌≡◌, ◌<◌, true, length, set}
+use Rattle.std.specs.Prelude.{◌≡◌, ◌<◌, true, length, set}
 use mathlib.Core.Path.{sym, ap, ap₂, ◌∙◌}
 use native.Mathlib.Omega.{arith}
 use lib.ListN.{length-set}

@@ -3,7 +3,7 @@
 use mathlib.Core.Path.{sym}
 use native.Mathlib.Omega.{arith}
 use borrow.Author.Rules.{rules}
-use Rattle.core.specs.Prelude.{◌-◌, length}
+use Rattle.std.specs.Prelude.{◌-◌, length}
 use Rattle.serializer.proofs.document.TakeCases.{least-none, least-some}
 use Rattle.serializer.proofs.document.least_after.Statement.{statement}
 use Rattle.serializer.proofs.document.least_after.Tie as tie

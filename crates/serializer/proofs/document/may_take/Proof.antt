@@ -1,6 +1,6 @@
 -- `serializer::document::may_take` meets its contract: the questions are asked in the definition's order, and the first no ends it.
 -- Assumes nothing.
-use Rattle.core.specs.Prelude.{◌≡◌, ◌≤◌, true}
+use Rattle.std.specs.Prelude.{◌≡◌, ◌≤◌, true}
 use mathlib.Core.Path.{sym, ap₂, ◌∙◌}
 use native.Mathlib.Omega.{arith}
 use borrow.Author.Tests.{not-true, not-false}

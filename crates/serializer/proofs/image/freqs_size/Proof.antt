@@ -1,7 +1,7 @@
 -- `serializer::image::freqs_size` meets its contract.
 -- Assumes nothing.
 use mathlib.Core.Path.{sym, ap, ◌∙◌}
-use Rattle.core.specs.Prelude.{length}
+use Rattle.std.specs.Prelude.{length}
 use borrow.Author.Rules.{rules}
 use Rattle.serializer.proofs.Laws.ImagePieces.{all-kept, left_out}
 use Rattle.serializer.proofs.image.freqs_size.Statement.{statement}

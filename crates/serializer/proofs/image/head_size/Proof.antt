@@ -2,7 +2,7 @@
 -- Assumes nothing.
 use mathlib.Core.Path.{sym, ap}
 use native.Mathlib.Omega.{arith}
-use Rattle.core.specs.Prelude.{length}
+use Rattle.std.specs.Prelude.{length}
 use lib.ListN.{length-append}
 use borrow.Author.Rules.{rules}
 use Rattle.format.specs.Vint.{vint}

@@ -1,7 +1,7 @@
 -- `serializer::image::image_fits` meets its contract: the sizes are those of the image's parts.
 -- Assumes nothing.
 use mathlib.Core.Path.{sym, ap, ◌∙◌}
-use Rattle.core.specs.Prelude.{ℕ, leb}
+use Rattle.std.specs.Prelude.{ℕ, leb}
 use borrow.Author.Rules.{rules}
 use Rattle.serializer.proofs.Laws.ImagePieces.{image-length}
 use Rattle.serializer.proofs.image.image_fits.Statement.{statement}

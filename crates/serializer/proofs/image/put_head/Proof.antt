@@ -1,6 +1,6 @@
 -- `serializer::image::put_head` meets its contract: the entries go behind their length.
 -- Assumes nothing.
-use Rattle.core.specs.Prelude.{◌+◌, ◌≤◌, ◌++◌, length}
+use Rattle.std.specs.Prelude.{◌+◌, ◌≤◌, ◌++◌, length}
 use native.Mathlib.Omega.{arith}
 use borrow.Author.Rules.{rules}
 use Rattle.format.specs.Vint.{vint}

@@ -1,7 +1,7 @@
 -- `serializer::image::put_image` meets its contract: the image is its head, its blocks and its tail, and what fits as a whole fits
 -- piece by piece.
 -- Assumes nothing.
-use Rattle.core.specs.Prelude.{◌≡◌, ℕ, ◌+◌, ◌≤◌, true, leb, List, ◌++◌, length}
+use Rattle.std.specs.Prelude.{◌≡◌, ℕ, ◌+◌, ◌≤◌, true, leb, List, ◌++◌, length}
 use mathlib.Core.Path.{sym, ◌∙◌}
 use native.Mathlib.Nat.{zero-add}
 use borrow.Author.Tests.{not-true, not-false, leb-true}

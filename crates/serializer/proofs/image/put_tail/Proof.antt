@@ -1,6 +1,6 @@
 -- `serializer::image::put_tail` meets its contract: the frequencies go behind the ids.
 -- Assumes nothing.
-use Rattle.core.specs.Prelude.{ℕ, ◌+◌, ◌≤◌, List, ◌++◌, length}
+use Rattle.std.specs.Prelude.{ℕ, ◌+◌, ◌≤◌, List, ◌++◌, length}
 use borrow.Author.Rules.{rules}
 use Rattle.format.specs.SkipEntry.{has_freq_of}
 use Rattle.format.specs.Values.{gaps_from}

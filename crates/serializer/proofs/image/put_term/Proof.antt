@@ -1,6 +1,6 @@
 -- `serializer::image::put_term` meets its contract: what is handed over are the parts of the state's image.
 -- Assumes nothing.
-use Rattle.core.specs.Prelude.{◌≡◌, ◌≤◌, true, length}
+use Rattle.std.specs.Prelude.{◌≡◌, ◌≤◌, true, length}
 use mathlib.Core.Path.{sym}
 use native.Mathlib.Omega.{arith}
 use lib.Seq.{length-take-le}

@@ -1,6 +1,6 @@
 -- `serializer::list::ask_docs` meets its contract: the mode, then the slices' lengths, then the documents.
 -- Assumes nothing.
-use Rattle.core.specs.Prelude.{◌≡◌, true}
+use Rattle.std.specs.Prelude.{◌≡◌, true}
 use mathlib.Core.Path.{sym, ◌∙◌}
 use borrow.Author.Tests.{not-true, not-false}
 use borrow.Author.Rules.{rules}

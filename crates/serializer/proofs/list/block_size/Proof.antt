@@ -1,7 +1,7 @@
 -- `serializer::list::block_size` meets its contract: each width is at most 32.
 -- Assumes nothing.
 use mathlib.Core.Path.{◌∙◌}
-use Rattle.core.specs.Prelude.{◌≤◌}
+use Rattle.std.specs.Prelude.{◌≤◌}
 use native.Mathlib.Omega.{arith}
 use borrow.Author.Rules.{rules}
 use Rattle.format.proofs.Bitpacking.{width-le}

@@ -1,7 +1,7 @@
 -- `serializer::list::blocks_size` meets its contract. The loop's invariant: the bytes of the blocks so far are counted, and `least` is
 -- the least id that may come behind them. The measure is the blocks left. A slice holds so few ids that their blocks' bytes fit.
 -- Assumes nothing.
-use Rattle.core.specs.Prelude.{◌≡◌, ℕ, ◌+◌, ◌-◌, ◌*◌, ◌/◌, ◌≤◌, length, take}
+use Rattle.std.specs.Prelude.{◌≡◌, ℕ, ◌+◌, ◌-◌, ◌*◌, ◌/◌, ◌≤◌, length, take}
 use mathlib.Core.Path.{refl, sym, ap}
 use native.Mathlib.Omega.{arith}
 use Rattle.serializer.specs.Whole.{full_blocks_of}

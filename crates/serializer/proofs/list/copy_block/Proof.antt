@@ -1,7 +1,7 @@
 -- `serializer::list::copy_block` meets its contract. The loop's invariant: the first i places of the block hold the first i values.
 -- The measure is the places left.
 -- Assumes nothing.
-use Rattle.core.specs.Prelude.{◌≡◌, ◌-◌, ◌<◌, ◌≤◌, length, take, drop}
+use Rattle.std.specs.Prelude.{◌≡◌, ◌-◌, ◌<◌, ◌≤◌, length, take, drop}
 use mathlib.Core.Path.{refl, sym, ◌∙◌}
 use native.Mathlib.Numerals.{add-one}
 use native.Mathlib.Omega.{arith}

@@ -1,6 +1,6 @@
 -- `serializer::list::entries_size` meets its contract: a slice holds so few ids that the entries' bytes fit.
 -- Assumes nothing.
-use Rattle.core.specs.Prelude.{◌/◌, length}
+use Rattle.std.specs.Prelude.{◌/◌, length}
 use native.Mathlib.Omega.{arith}
 use borrow.Author.Rules.{rules}
 use Rattle.serializer.proofs.Laws.BlockPlaces.{entries_fit}

@@ -1,7 +1,7 @@
 -- `serializer::list::freqs_width` meets its contract: where no frequency is kept, there are no values.
 -- Assumes nothing.
 use mathlib.Core.Path.{sym, ap, ◌∙◌}
-use Rattle.core.specs.Prelude.{true}
+use Rattle.std.specs.Prelude.{true}
 use borrow.Author.Rules.{rules}
 use borrow.Author.Tests.{not-true, not-false}
 use Rattle.format.specs.Basics.{choose}

@@ -1,7 +1,7 @@
 -- `serializer::list::write_blocks` meets its contract. The loop's invariant: the blocks so far are written. The measure is the blocks
 -- left. As all blocks fit, none is refused.
 -- Assumes nothing.
-use Rattle.core.specs.Prelude.{◌≡◌, ◌+◌, ◌-◌, ◌*◌, ◌/◌, ◌≤◌, length}
+use Rattle.std.specs.Prelude.{◌≡◌, ◌+◌, ◌-◌, ◌*◌, ◌/◌, ◌≤◌, length}
 use native.Mathlib.Omega.{arith}
 use borrow.Author.Rules.{rules}
 use Rattle.serializer.specs.declared.block.Placed.TheVariants.{NoRoom}

@@ -1,6 +1,6 @@
 -- `serializer::list::write_checked` meets its contract: the sizes answer question 15 before a byte is written.
 -- Assumes nothing.
-use Rattle.core.specs.Prelude.{◌≡◌, true, length}
+use Rattle.std.specs.Prelude.{◌≡◌, true, length}
 use mathlib.Core.Path.{sym, ◌∙◌}
 use borrow.Author.Tests.{not-true, not-false}
 use Rattle.serializer.specs.Whole.{list_fits_of}

@@ -1,6 +1,6 @@
 -- `serializer::list::write_list` meets its contract: where a question of the documents is answered no, nothing is written.
 -- Assumes nothing.
-use Rattle.core.specs.Prelude.{◌≡◌, ℕ, List}
+use Rattle.std.specs.Prelude.{◌≡◌, ℕ, List}
 use borrow.Author.Rules.{rules}
 use Rattle.format.specs.Accepted.{written}
 use Rattle.format.specs.Basics.{Outcome, ok}
