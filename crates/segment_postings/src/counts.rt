@@ -8,7 +8,7 @@ ghost use Rattle.format.specs.Reading.{reading};
 ghost use Rattle.segment_postings.specs.Calls.{valued};
 ghost use Rattle.segment_postings.specs.Passed.{FrontOf, docs_in_of};
 
-use crate::core::{first_start, land, start_behind};
+use crate::arrays::{first_start, land, start_behind};
 use crate::layout::{Laid, full_blocks, lay_out};
 use crate::{Reached, Value};
 use format::{COMPRESSION_BLOCK_SIZE, Layout, TARGET_TOO_LARGE, TERMINATED, Term};

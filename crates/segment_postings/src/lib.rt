@@ -3,7 +3,7 @@
 
 #![tactic(auto)]
 
-mod core;
+mod arrays;
 mod counts;
 mod find;
 pub mod layout;
@@ -14,7 +14,7 @@ mod segment_postings;
 pub mod validate;
 mod whole;
 
-pub use crate::core::{advance_in, answer_at, open_in};
+pub use crate::arrays::{advance_in, answer_at, open_in};
 pub use crate::counts::total;
 pub use crate::lending::{advance_by_lending, advance_mut, seek_by_lending, seek_mut};
 pub use crate::seeks::{rank, seek, seek_in};

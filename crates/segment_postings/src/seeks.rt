@@ -6,7 +6,7 @@ ghost use Rattle.segment_postings.specs.Called.{called};
 ghost use Rattle.segment_postings.specs.Calls.{cursor_of, Leaves, reached, Reaches, valued};
 ghost use Rattle.segment_postings.specs.Private.{call_by, with_answer_of};
 
-use crate::core::{advance_in, at_end, at_place, in_bounds, land_first, leave_whole, shown_at};
+use crate::arrays::{advance_in, at_end, at_place, in_bounds, land_first, leave_whole, shown_at};
 use crate::layout::full_blocks;
 use crate::{Answer, Held, Moved, Reached, SegmentPostings, Value};
 use block_search::search_block;

@@ -4,7 +4,7 @@ ghost use Rattle.std.specs.Prelude.{◌≡◌};
 ghost use Rattle.segment_postings.specs.Cursor.{blank, opened, advanced, value_at, doc_at, freq_at};
 ghost use Rattle.segment_postings.specs.Calls.{valued};
 
-use crate::core::{at_end, in_bounds, open_in};
+use crate::arrays::{at_end, in_bounds, open_in};
 use crate::seeks::{go, with_answer};
 use crate::{Held, Moved, SegmentPostings, Value};
 use format::{COMPRESSION_BLOCK_SIZE, STATE_BROKEN, TERMINATED, Term};

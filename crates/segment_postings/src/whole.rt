@@ -5,7 +5,7 @@ ghost use Rattle.format.specs.Basics.{put_at};
 ghost use Rattle.segment_postings.specs.Passed.{docs_in_of};
 ghost use Rattle.segment_postings.specs.ReadWhole.{Walks, Written, WholeRead, read_whole};
 
-use crate::core::{first_start, land, start_behind};
+use crate::arrays::{first_start, land, start_behind};
 use crate::counts::docs_in;
 use crate::layout::{Laid, full_blocks, lay_out};
 use crate::validate::validate;

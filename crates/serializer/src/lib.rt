@@ -4,7 +4,7 @@
 
 mod block;
 mod bounds;
-mod core;
+mod arrays;
 mod document;
 mod image;
 mod list;
@@ -13,8 +13,8 @@ ghost use Rattle.std.specs.Prelude.{◌≡◌};
 ghost use Rattle.serializer.specs.Calls.{beginning, progress_of_of, state_of, Took, Closed};
 ghost use Rattle.serializer.specs.Writer as specs;
 
-use crate::core::fresh_progress;
-pub use core::{close_term_in, new_term_in, write_doc_in};
+use crate::arrays::fresh_progress;
+pub use arrays::{close_term_in, new_term_in, write_doc_in};
 pub use list::{ask_list, write_list};
 
 // A term being written. Finished blocks and their entries lie in two areas that the caller lends to each call.

@@ -25,7 +25,7 @@ use Rattle.segment_postings.specs.Cursor.{in_bounds_of, answer_at_of, position, 
 use Rattle.segment_postings.specs.Private.{FindsFrom}
 use Rattle.segment_postings.specs.Passed.{docs_in_of}
 use Rattle.segment_postings.proofs.Admission.LandingReads.{BlockHeld, block_held, docs_in_full, docs_in_tail, reads_on, reads-last}
-use Rattle.segment_postings.proofs.core.Question16.{in_bounds}
+use Rattle.segment_postings.proofs.arrays.Question16.{in_bounds}
 use Rattle.segment_postings.proofs.find.FoundBlock.{found_from, found-there}
 use Rattle.segment_postings.proofs.Simulation.HoldsBlock.{get_or-there}
 use Rattle.segment_postings.proofs.Laws.LandingParts.{starts-behind, leaving-laid, stepping-ended, stepping-within, stepping-leaves}

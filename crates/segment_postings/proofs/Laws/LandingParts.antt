@@ -34,7 +34,7 @@ use Rattle.segment_postings.specs.Landing.{first_start_of, find_block_of, load_b
 use Rattle.segment_postings.specs.Cursor.{position, in_bounds_of, opening, at_place, starts_inside_of, start_behind_of, leaving, stepping, answer_at_of, answering, moved}
 use Rattle.segment_postings.specs.Calls.{cursor_of, reached, Reaches}
 use Rattle.segment_postings.specs.Private.{laid, searched, counted, loaded, FindsFrom, BlockLoaded, Lands}
-use Rattle.segment_postings.proofs.core.Question16.{Bounded, bounded}
+use Rattle.segment_postings.proofs.arrays.Question16.{Bounded, bounded}
 use Rattle.segment_postings.proofs.layout.SplitParts.{laid_out}
 use Rattle.segment_postings.proofs.Laws.CursorTurns.{landing_is, opening-is}
 

@@ -16,7 +16,7 @@ use Rattle.format.proofs.Choice.{choose_elim}
 use Rattle.format.proofs.Outcome.{ok_same, ask-ok, and_then-ok}
 use Rattle.segment_postings.specs.declared.SegmentPostings.{SegmentPostings}
 use Rattle.segment_postings.specs.Cursor.{position, at_place, leaving, stepping, within, behind, seeking, seeking_fresh}
-use Rattle.segment_postings.proofs.core.Question16.{Bounded, bounded}
+use Rattle.segment_postings.proofs.arrays.Question16.{Bounded, bounded}
 use Rattle.segment_postings.proofs.Simulation.SearchOnLanding.{leaving-placed}
 use Rattle.segment_postings.proofs.Laws.LandingParts.{landing-first, leaves-full}
 use Rattle.segment_postings.proofs.seeks.SeekCases.{tested, within-is}

@@ -7,7 +7,7 @@ use Rattle.format.specs.declared.Term.{Term}
 use Rattle.format.specs.Basics.{refused, ask}
 use Rattle.format.specs.Refusal.{state_broken}
 use Rattle.segment_postings.specs.Cursor.{in_bounds_of, blank, stepping, seeking, value_at}
-use Rattle.segment_postings.proofs.core.Question16.{Bounded, out-of_bounds}
+use Rattle.segment_postings.proofs.arrays.Question16.{Bounded, out-of_bounds}
 use Rattle.segment_postings.proofs.Laws.CursorTurns.{stepping-is, seeking-is}
 
 module _ (bs : List ℕ) (t : Term) where

@@ -6,7 +6,7 @@ use native.Mathlib.Omega.{arith}
 use borrow.Author.Rules.{rules}
 use borrow.Author.Tests.{not-true, not-false}
 use Rattle.segment_postings.specs.Cursor.{position, in_bounds_of}
-use Rattle.segment_postings.proofs.core.Question16.{bounded}
+use Rattle.segment_postings.proofs.arrays.Question16.{bounded}
 use Rattle.segment_postings.proofs.Laws.LandingParts.{reaches_as, none-reached, held-reached}
 use Rattle.segment_postings.proofs.seeks.SeekCases.{seeking_broken, seeking-ended, seeking_too_large, seeking-stays, seeking-within, seeking-behind}
 use Rattle.segment_postings.proofs.seeks.seek_in.Statement.{statement}

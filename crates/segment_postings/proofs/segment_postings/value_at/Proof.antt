@@ -7,7 +7,7 @@ use borrow.Author.Tests.{not-true, not-false}
 use Rattle.format.specs.Basics.{ask, choose}
 use Rattle.segment_postings.specs.Cursor.{in_bounds_of, value_at}
 use Rattle.segment_postings.specs.Calls.{valued}
-use Rattle.segment_postings.proofs.core.Question16.{bounded}
+use Rattle.segment_postings.proofs.arrays.Question16.{bounded}
 use borrow.Author.Rules.{rules}
 use Rattle.segment_postings.proofs.segment_postings.value_at.Statement.{statement}
 use Rattle.segment_postings.proofs.segment_postings.value_at.Tie as tie
