@@ -1,6 +1,6 @@
 -- What the loops over a slice need of walks (`specs/Fold.antt`), tests and numbers: the elements ys are behind, and one of the rest
 -- is next.
---     along-end, along-snoc    ys in front of a walk that stops at once; one more element joins ys
+--     along-end, along_snoc    ys in front of a walk that stops at once; one more element joins ys
 --     serving, refusing        a walk whose first turn serves, or refuses
 --     cases, is_zero, is-more  the two ways that a refusal's number goes, and how the test for it comes out
 --     next_fits                the index after one within the slice is a number of 64 bits

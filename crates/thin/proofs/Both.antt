@@ -15,12 +15,12 @@ use Prim.Native.Nat.{ℕ, suc}
 use mathlib.Core.List.{List, [], ◌∷◌, ◌++◌}
 use lib.ListN.{length, get_or}
 use seplogic.Ra.Ura.{Ura}
-use seplogic.Ra.TreeShare.{full_share}
-use mir.Syntax.{Ty, Name, Fn, Body as Code, Mutability, named, erased, ty_ref, mut, imm, local, value_local, place, deref, field}
+use base.Fraction.{full_share}
+use mir.Syntax.{Ty, Callee, Fn, Body as Code, Mutability, named, erased, ty_ref, mut, imm, local, value_local, place, deref, field}
 use mir.Syntax.{copy, addr_of, aggregate, seq, assign, call, return}
 use mir.Val.{Val}
 use base.Logic.{SProp, ent, id⊢}
-use base.Fml.{GName, ftrue, fat, froom, fdies, flft, fobs, fbor, flent}
+use base.Fml.{Incl-refl, ftrue, fat, froom, fdies, flft, fobs, fbor, flent}
 use prog.Wp.{Env, WpFn, Tables, Closed, no_local}
 use prog.Model.{Model}
 use prog.Routine.{Routine, Env as Routines}
@@ -41,7 +41,7 @@ use denote.Laws.{Is, shows, Typed}
 use denote.Memory.{pointee, shares}
 use denote.Ref.{Bor, MutBor}
 use denote.Shadow.{pure_i}
-use denote.Slice.{slice_ty, slice_val, ShrSlice, Room, heres, coded_holeys, shr_slice_at}
+use denote.Slice.{slice_ty, slice_val, ShrSlice, Room, heres, coded_holeys, mut_slice_at}
 use denote.Lend.{Held, lends_shr_slice}
 use denote.Index.{opens_slice, closes_slice}
 use denote.Steps.{only, owned, peeks, heard, nothing}
@@ -74,7 +74,7 @@ module _ (S K O : Data) {n : ℕ} (ps : List (Arg (suc n))) where
   abbrev # : ℕ → ℕ
   # j = suc (suc (past τs j))
 
-  abbrev code : Name → Name → Code
+  abbrev code : Callee → Callee → Code
   code f-key g-key =
       seq (assign (place (# 1) []) (addr_of (place 1 (field 0 ∷ deref S.mir ∷ []))))
       (seq (assign (place (# 2) []) (aggregate (copy (place (# 1) []) ∷ copy (place 1 (field 1 ∷ [])) ∷ [])))
@@ -83,10 +83,12 @@ module _ (S K O : Data) {n : ℕ} (ps : List (Arg (suc n))) where
       (seq (assign (place (# 4) []) (aggregate (copy (place (# 3) []) ∷ copy (place 1 (field 1 ∷ [])) ∷ [])))
       (seq (call g-key (copy (place (# 4) []) ∷ copy (place (# 0) []) ∷ copies 2 τs) (place 0 [])) return)))))
 
-  abbrev pub both_fn : Name → Name → Fn
+  abbrev pub both_fn : Callee → Callee → Fn
   both_fn f-key g-key = record {
     lifetimes = suc n;
     outlives = [];
+    ty_params = [];
+    givens = 0;
     params = suc (past τs 0);
     locals =
         local O.mir value_local ∷ local slice_t value_local ∷
@@ -122,14 +124,14 @@ module _ (S K O : Data) {n : ℕ} (ps : List (Arg (suc n))) where
     Both = Over S.row ps O of of₁
 
     module _ {M : Type 1} {𝓤 : Ura M} (𝓛 : Logic 𝓤) (κs : Lfts (suc n)) (qs : Shares (suc n))
-        (x : Bor (List X)) (a : Denots (rows ps κs)) where
+        (x : MutBor (List X)) (a : Denots (rows ps κs)) where
       open 𝓛 use {H}
 
       abbrev b : ℕ
       b = x.ref_ptr.0
 
       abbrev o : ℕ
-      o = x.ptr.1
+      o = x.ref_ptr.1
 
       abbrev xs : List X
       xs = x.now
@@ -143,9 +145,9 @@ module _ (S K O : Data) {n : ℕ} (ps : List (Arg (suc n))) where
       abbrev k : K.row.Denot
       k = asks xs
 
-      -- the slice as f has it, under the name γ
-      abbrev seen : GName → MutBor (List X)
-      seen γ = record { ref_ptr = (b, o); ghost_name = γ; now = xs }
+      -- the slice as f has it
+      abbrev seen : Bor (List X)
+      seen = record { ref_ptr = (b, o); now = xs }
 
       abbrev tokens : Item 𝓤
       tokens = raw (toks 𝓛 n κs.1 qs.1)
@@ -156,13 +158,13 @@ module _ (S K O : Data) {n : ℕ} (ps : List (Arg (suc n))) where
 
       abbrev had : List (Item 𝓤)
       had =
-          ‵ (flft κs.0 qs.0) ∷ tokens ∷ ‵ (fobs x.name ((coded_holeys S.row).code (heres S.row xs))) ∷
-          ‵ (fbor κs.0 (Held S.row m b o x.name)) ∷ ‵ (held κs ps a) ∷ []
+          ‵ (flft κs.0 qs.0) ∷ tokens ∷ ‵ (fobs x.ghost_name ((coded_holeys S.row).code (heres S.row xs))) ∷
+          ‵ (fbor κs.0 (Held S.row m b o x.ghost_name)) ∷ ‵ (held κs ps a) ∷ []
 
       passed_on : Room S.row m → Is K.row k (K.val k ∷ []) → ent 𝓤 (⋆ 𝓛 had) ((Next 𝓛).pre asked)
       passed_on room is =
           qed 𝓛 had ∵ join ! $ move ! (1 ∷ 2 ∷ []) $ fjoin ! $
-          pure_i ! (shr_slice_at S.row x (sv ∷ [])) (tt, (tt, tt)) (refl, room) $ fjoin ! $
+          pure_i ! (mut_slice_at S.row x (sv ∷ [])) (tt, (tt, tt)) (refl, room) $ fjoin ! $
           move ! (2 ∷ []) $ owned ! K.row (Is K.row) (K.makes 𝓛) k _ is $ fjoin ! $ move ! (1 ∷ 0 ∷ []) $ fjoin ! $
           move ! (1 ∷ 0 ∷ []) $ join ! $ nothing ! $ move ! (1 ∷ 0 ∷ []) $ done !
 
@@ -175,7 +177,7 @@ module _ (S K O : Data) {n : ℕ} (ps : List (Arg (suc n))) where
       abbrev Post : Val → SProp 𝓤
       Post = Gave S.row ps O of of₁ 𝓛 κs qs x a
 
-      module _ (𝓣 : Tables 𝓤 H) (f-key g-key : Name) (f-known : Triple 𝓤 (𝓣.C f-key) (Ask 𝓛))
+      module _ (𝓣 : Tables 𝓤 H) (f-key g-key : Callee) (f-known : Triple 𝓤 (𝓣.C f-key) (Ask 𝓛))
           (g_known : Triple 𝓤 (𝓣.C g-key) (Next 𝓛)) (room : Room S.row m) (ty : Typed τs (machine κs ps a)) where
         abbrev fm : FmC 𝓤 H 𝓛.laws 𝓣.C
         fm = fm_of 𝓤 H 𝓛.laws 𝓣
@@ -202,8 +204,8 @@ module _ (S K O : Data) {n : ℕ} (ps : List (Arg (suc n))) where
               (‵ (cells τs bs (machine κs ps a)) ∷
               (idle (slice_ty (ref_t mut)) lv ++ idle (ref_t mut) lu ++ idle (slice_ty (ref_t imm)) ls ++ idle (ref_t imm) lr ++
               idle K.mir lk ++ (‵ (fat full_share slice_t l₁ 0 sv) ∷ ‵ (fdies slice_t l₁) ∷ ‵ (froom O.mir l₀ 0) ∷
-              ‵ (fdies O.mir l₀) ∷ ‵ (fobs x.name ((coded_holeys S.row).code (heres S.row xs))) ∷
-              ‵ (fbor κs.0 (Held S.row m b o x.name)) ∷ ‵ (flft κs.0 qs.0) ∷ ‵ (held κs ps a) ∷ tokens ∷ [])))
+              ‵ (fdies O.mir l₀) ∷ ‵ (fobs x.ghost_name ((coded_holeys S.row).code (heres S.row xs))) ∷
+              ‵ (fbor κs.0 (Held S.row m b o x.ghost_name)) ∷ ‵ (flft κs.0 qs.0) ∷ ‵ (held κs ps a) ∷ tokens ∷ [])))
               (runs 𝓣.C 𝓣.Λ E (code f-key g-key) (at_ret E Post))
           body =
               -- the slice is opened, lent to f as a `&[S]` for a new lifetime, and closed again
@@ -214,15 +216,15 @@ module _ (S K O : Data) {n : ℕ} (ps : List (Arg (suc n))) where
               (init ! 5 refl (tt, (tt, (record { fits = room.0 }, tt)))) $
               move ! (15 ∷ 16 ∷ 17 ∷ []) $ opens_slice ! tt S.row xs b o $ lft_new ! tt (λ ν. move ! (1 ∷ []) $
               feq_i ! ℕ (length xs) (length xs) refl $ fjoin ! $
-              use1 𝓛 (later (some (λ (γ : GName).
-              ‵ ((ShrSlice (named 0) (ν ∷ []) S.row).own_val (seen γ) (sv ∷ [])) ⊛
-              ‵ (flent (ν ∷ []) ((arr_parts (shares S.row) m).part full_share xs b o)))))
-              (lends_shr_slice 𝓛 S.row (named 0) (ν ∷ []) full_share xs b o room) $ await ! tt $ pick ! (λ γ. split ! $
+              use2 𝓛 (later ((‵ ((ShrSlice (named 0) (ν ∷ []) S.row).own_val seen (sv ∷ [])) ⊛
+              ‵ (flent (ν ∷ []) ((arr_parts (shares S.row) m).part full_share xs b o))) ⊛ ‵ (flft (ν ∷ []) full_share)))
+              (lends_shr_slice 𝓛 S.row (named 0) (ν ∷ []) full_share xs b o room (ν ∷ []) ((S.shared 𝓛).shares full_share (ν ∷ []))
+              ((ν ∷ [], full_share) ∷ []) (Incl-refl (ν ∷ [])) (Incl-refl (ν ∷ []))) $ await ! tt $ split ! $ split ! $
               -- [f's slice, lent; the lender's part; ν; the open borrow; obs; auth; the others' cells; ..; what the others own;
               -- their tokens]
               nothing ! $ move ! (1 ∷ 0 ∷ []) $ fjoin ! $ nothing ! $ move ! (3 ∷ 0 ∷ []) $
               use2 𝓛 (raw (toks 𝓛 1 (ν ∷ [], tt) (full_share, tt))) (id⊢ 𝓤 _) $
-              calls-value reading K.row (λ _ t. asks t.0.now) 𝓛 (ν ∷ [], tt) (full_share, tt) (seen γ, tt) fm f-key f-known
+              calls-value reading K.row (λ _ t. asks t.0.now) 𝓛 (ν ∷ [], tt) (full_share, tt) (seen, tt) fm f-key f-known
               (λ _. and_then ! (opd-at ! (at 2) (look ! 10 refl)) (no_more !)) (λ v is.
               land ! (to 0) (init ! 14 refl (K.typed 𝓛 k _ is)) $
               rewrite ! 14 (λ (t : Val). ‵ (fat full_share K.mir lk 0 t)) (ap only (K.tells k _ is)) refl $
@@ -245,16 +247,16 @@ module _ (S K O : Data) {n : ℕ} (ps : List (Arg (suc n))) where
               await ! tt $ pick ! (λ r. split ! $ move ! (1 ∷ []) $
               use1 𝓛 (some (λ (zs : Lasts next_e κs (x, (k, a))). ‵ (bound next_e κs (x, (k, a)) zs) ⊛ raw (fact 𝓤 (Told r zs))))
               (id⊢ 𝓤 _) $ pick ! (λ zs. split ! $ move ! (1 ∷ []) $ heard ! (Told r zs) (λ e.
-              fsplit ! $ fsplit ! $ move ! (1 ∷ []) $ feq_l ! (λ len. move ! (2 ∷ []) $ split ! $ move ! (1 ∷ []) $
-              peeks ! O.row (Is O.row) (shows 𝓛 O.row) r (w ∷ []) (λ is-r. drop ! $ split ! $
-              -- [its token; their tokens; the last list; what is said of the rest; ..; the others' cells; ..]
+              fsplit ! $ fsplit ! $ fsplit ! $ move ! (1 ∷ []) $ feq_l ! (λ len. move ! (2 ∷ []) $ drop ! $ move ! (2 ∷ []) $
+              split ! $ move ! (1 ∷ []) $ peeks ! O.row (Is O.row) (shows 𝓛 O.row) r (w ∷ []) (λ is-r. drop ! $ split ! $
+              -- [its token; their tokens; the last list; the borrow; ..; the others' cells; ..]
               land ! (from ! (stop !)) (init ! 18 refl (O.typed 𝓛 r _ is-r)) $ returns ! (look ! 18 refl) $
               forget ! 14 refl $ forget ! 12 refl $ forget ! 10 refl $ forget ! 8 refl $ forget ! 6 refl $ forget ! 16 refl $
               forget ! 18 refl $ move ! (18 ∷ 19 ∷ []) $ free1 ! $ move ! (16 ∷ 17 ∷ []) $ free1 ! $ move ! (5 ∷ []) $
               forget-all ! τs bs (machine κs ps a) $ free_all ! τs bs F $ move ! (13 ∷ 14 ∷ []) $ free1 ! $
               move ! (11 ∷ 12 ∷ []) $ free1 ! $ move ! (9 ∷ 10 ∷ []) $ free1 ! $ move ! (7 ∷ 8 ∷ []) $ free1 ! $
-              move ! (5 ∷ 6 ∷ []) $ free1 ! $ free0 ! $ keep ! (2 ∷ 0 ∷ 1 ∷ []) $
-              by ! (given S.row ps O of of₁ 𝓛 κs qs x a r w zs.0 e.0 e.1 len is-r))))))))))
+              move ! (5 ∷ 6 ∷ []) $ free1 ! $ free0 ! $ keep ! (2 ∷ 3 ∷ 0 ∷ 1 ∷ []) $
+              by ! (given S.row ps O of of₁ 𝓛 κs qs x a r w zs.0 e.0 e.1 len is-r)))))))))
 
         walk :
             ent 𝓤 (⋆ 𝓛 (Entry S.row ps O of of₁ 𝓛 κs qs x a))
@@ -270,7 +272,7 @@ module _ (S K O : Data) {n : ℕ} (ps : List (Arg (suc n))) where
             pass_all ! τs bs (machine κs ps a) (F l₀ l₁ bs lk lr ls lu lv) ty $ body l₀ l₁ bs lk lr ls lu lv))))))))
 
     meets :
-        {M : Type 1} {𝓤 : Ura M} (𝓛 : Logic 𝓤) (𝓣 : Tables 𝓤 𝓛.H) (f-key g-key : Name) →
+        {M : Type 1} {𝓤 : Ura M} (𝓛 : Logic 𝓤) (𝓣 : Tables 𝓤 𝓛.H) (f-key g-key : Callee) →
         Triple 𝓤 (𝓣.C f-key) (Ask 𝓛) → Triple 𝓤 (𝓣.C g-key) (Next 𝓛) →
         Triple 𝓤 (WpFn 𝓤 𝓛.H 𝓣.C 𝓣.Λ (both_fn f-key g-key)) (Both 𝓛)
     meets 𝓛 𝓣 f-key g-key f-known g_known =
@@ -280,7 +282,7 @@ module _ (S K O : Data) {n : ℕ} (ps : List (Arg (suc n))) where
     -- env has both at the name j, and the routines r and s of f and g at the names f-key and g-key
     pub in_a_row :
         {M : Type 1} {𝓤 : Ura M} (𝓛 : Logic 𝓤) (𝓜 : Model 𝓤 𝓛.H) (𝓡 : Running 𝓤 𝓛.H 𝓜) (env : Routines)
-        (j f-key g-key : Name) (r s : Routine) → env f-key ≡ r → env g-key ≡ s →
+        (j f-key g-key : Callee) (r s : Routine) → env f-key ≡ r → env g-key ≡ s →
         Closed 𝓤 𝓛.H (tables 𝓤 𝓛.H 𝓜 𝓡 env).C (tables 𝓤 𝓛.H 𝓜 𝓡 env).Λ j (both_fn f-key g-key) →
         Triple 𝓤 (𝓡.run r) (Ask 𝓛) → Triple 𝓤 (𝓡.run s) (Next 𝓛) → Triple 𝓤 (𝓡.run (env j)) (Both 𝓛)
     unfolding tables_of

@@ -9,7 +9,7 @@ use mathlib.Core.Path.{◌≡◌, subst}
 use Prim.Native.Nat.{ℕ}
 use mathlib.Core.List.{List, [], ◌∷◌}
 use seplogic.Ra.Ura.{Ura}
-use mir.Syntax.{Name, Place, Opd as Operand, Body as Code, seq, call}
+use mir.Syntax.{Callee, Place, Opd as Operand, Body as Code, seq, call}
 use mir.Val.{Val}
 use base.Logic.{SProp, ent, emp, snd∗, ex_e, id⊢}
 use prog.Wp.{Env, Calls, Loops}
@@ -66,7 +66,7 @@ module _ {n : ℕ} (ps : List (Arg n)) (R : RattleType) where
       pub calls-value :
           {C : Calls 𝓤 H} {Λ : Loops 𝓤 H} {E : Env 𝓤 H} {Γ : List (Item 𝓤)} {q : Posts 𝓤 H} {ops : List Operand} {to : Place}
           {rest : Code} →
-          FmC 𝓤 H 𝓛.laws C → (key : Name) → Triple 𝓤 (C key) (Value 𝓛) →
+          FmC 𝓤 H 𝓛.laws C → (key : Callee) → Triple 𝓤 (C key) (Value 𝓛) →
           ((i : Item 𝓤) → Opds (Go {0}) 𝓛 (i ∷ Γ) E ops (machine κs ps a)) →
           ((v : Val) → Is R (of κs a) (v ∷ []) → Seq (Go {0}) 𝓛 (tokens ∷ Γ) (lands C Λ E to v rest q)) →
           Seq (Go {0}) 𝓛 (tokens ∷ ‵ (owned κs ps a) ∷ Γ) (runs C Λ E (seq (call key ops to) rest) q)

@@ -12,7 +12,7 @@ use Prim.Native.Nat.{ℕ}
 use mathlib.Core.List.{List, [], ◌∷◌}
 use lib.Dec.{T as Holds}
 use seplogic.Ra.Ura.{Ura}
-use seplogic.Ra.TreeShare.{full_share}
+use base.Fraction.{full_share}
 use mir.Syntax.{Sym, Ty, Width, ty_int, ty_struct, tcons, tnil}
 use mir.Val.{Val, WT, has_ty, vint, vstruct, vcons, vnil}
 use base.Logic.{ent, guard}
@@ -23,6 +23,7 @@ use denote.RattleType.{RattleType}
 use denote.Laws.{Is, shows, Tells, Makes, Copy}
 use denote.Steps.{peeks, owned}
 use denote.Memory.{lone, mem, cell_at, part_of}
+use denote.Copied.{Copied, uint_Copied}
 use denote.Plain.{UInt, uint_Tells, uint_Makes, uint_Lawful}
 use denote.Exit.{Kept, unchanged}
 use denote.Struct.Steps.{spelt}
@@ -33,7 +34,8 @@ use denote.Enum.Declared as E
 use denote.Enum.Enum.{Plainss, Few}
 use denote.Enum.Laws as EL
 
--- tells: the machine value can only be `val`. makes: what is owned is had for nothing. still: at exit a value is as it was passed
+-- tells: the machine value can only be `val`. makes: what is owned is had for nothing. still: at exit a value is as it was
+-- passed. shared: it can be read behind a `&`
 pub record Data : Type 2 where
   pub row : RattleType
   pub mir : Ty
@@ -45,6 +47,7 @@ pub record Data : Type 2 where
       {M : Type 1} {𝓤 : Ura M} (𝓛 : Logic 𝓤) →
       (x : row.Denot) (v : Val) → Is row x (v ∷ []) → Holds (has_ty mir v) × WT v
   pub still : (k : Kept) → row.exit k ≡ unchanged
+  pub shared : {M : Type 1} {𝓤 : Ura M} (𝓛 : Logic 𝓤) → Copied 𝓛 row
 
 abbrev pub uint : Width → Data
 uint w = record {
@@ -56,6 +59,7 @@ uint w = record {
   makes = λ 𝓛. uint_Makes 𝓛 w;
   typed = λ 𝓛 x v is. ((uint_Lawful 𝓛 w).typed x (v ∷ []) is).0;
   still = λ k. refl;
+  shared = λ 𝓛. uint_Copied 𝓛 w;
 }
 
 abbrev pub struct : (T : S.Declared) → SL.Laws T → Plains (S.fields T) → SL.Copyables T.parts → Data
@@ -68,6 +72,7 @@ struct T laws plain copy = record {
   makes = λ 𝓛. SL.makes T plain 𝓛;
   typed = λ 𝓛 x v is. ((SL.lawful T laws 𝓛).typed x (v ∷ []) is).0;
   still = SL.still T copy;
+  shared = λ 𝓛. SL.copied T copy 𝓛;
 }
 
 abbrev pub enum : (T : E.Declared) → EL.Laws T → Plainss (E.variants T) → EL.Copyabless T.parts → Few (E.shape T) → Data
@@ -80,6 +85,7 @@ enum T laws plain copy few = record {
   makes = λ 𝓛. EL.makes T plain 𝓛;
   typed = λ 𝓛 x v is. ((EL.lawful T laws 𝓛 few).typed x (v ∷ []) is).0;
   still = EL.still T copy;
+  shared = λ 𝓛. EL.copied T copy 𝓛;
 }
 
 -- a value that is related to some machine value is related to its own

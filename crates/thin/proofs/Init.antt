@@ -3,7 +3,7 @@
 --     Init d         a right side of MIR that needs nothing, the value of d that it makes, and that it makes it
 --     Literal w c    the number c as an operand of MIR
 --     filled w k c   `[c; k]`
---     big w k c      `[c; k]` of a number that MIR writes as `int_big`, as 2147483647: `rt mir` shows which
+--     big w k c      `[c; k]` of a number that MIR writes as `int_big`, as 2147483647: the generated code shows which
 --     number w c     the number c
 -- Assumes nothing.
 use mathlib.Core.Path.{◌≡◌, refl, ap, subst}
@@ -22,6 +22,7 @@ use types.Run.{Rv, Opd, lit, of_opd}
 use types.Part.{rep}
 use denote.Shadow.{shadow}
 use denote.Laws.{Is}
+use denote.Copied.{uint_Copied, Array-Copied}
 use denote.Plain.{UInt, uint_Tells, uint_Makes, uint_Lawful}
 use denote.Array.{Array, each, array_val, Array-Tells, Array-Makes, Array-Lawful}
 use Rattle.thin.proofs.Data.{Data, uint}
@@ -36,6 +37,7 @@ array w k = record {
   makes = λ 𝓛. Array-Makes 𝓛 (UInt w) (uint_Makes 𝓛 w) k;
   typed = λ 𝓛 x v is. ((Array-Lawful 𝓛 (UInt w) (uint_Lawful 𝓛 w) k).typed x (v ∷ []) is).0;
   still = λ j. refl;
+  shared = λ 𝓛. Array-Copied 𝓛 (UInt w) (uint_Copied 𝓛 w) tt k;
 }
 
 pub record Init (d : Data) : Type 2 where
@@ -46,7 +48,7 @@ pub record Init (d : Data) : Type 2 where
       {M : Type 1} {𝓤 : Ura M} (𝓛 : Logic 𝓤) (Γ : List (Item 𝓤)) (E : Env 𝓤 𝓛.H) →
       Rv (Go {0}) 𝓛 Γ E rv (d.val start)
 
-pub map-replicate : (w : Width) (k c : ℕ) → replicate k (vint w c) ≡ map (λ x. vint w x) (replicate k c)
+pub map-replicate : (w : Width) (k c : ℕ) → replicate {A = Val} k (vint w c) ≡ map (λ x. vint w x) (replicate k c)
 map-replicate w zero c = refl
 map-replicate w (suc k) c = ap (λ (l : List Val). vint w c ∷ l) (map-replicate w k c)
 

@@ -10,8 +10,8 @@ use mathlib.Core.Path.{◌≡◌, refl, ap, sym, subst, ◌∙◌}
 use Prim.Native.Nat.{ℕ, suc}
 use mathlib.Core.List.{List, [], ◌∷◌}
 use seplogic.Ra.Ura.{Ura}
-use seplogic.Ra.TreeShare.{full_share}
-use mir.Syntax.{Name, Place, Opd as Operand, Body as Code, named, seq, call}
+use base.Fraction.{full_share}
+use mir.Syntax.{Callee, Place, Opd as Operand, Body as Code, named, seq, call}
 use mir.Val.{Val, vptr}
 use base.Logic.{SProp, ent, sep, emp, guard, id⊢}
 use base.Fml.{GName, flft, fres, flent}
@@ -143,15 +143,15 @@ module _ (A₁ A₂ : RattleType) {n : ℕ} (ks : List (Kind n)) (R : RattleType
             (some (λ (ws : Lasts two_lent_e κs' (r₁, (r₂, a''))). ‵ (bound two_lent_e κs' (r₁, (r₂, a'')) ws) ⊛ raw (fact 𝓤 (Told r ws))))
             (id⊢ 𝓤 _) $
             pick ! (λ ws. split ! $ move ! (1 ∷ []) $ heard ! (Told r ws) (λ h. check ! (h.0 ∙ ap (of κs x y) same) $
-            fsplit ! $ move ! (1 ∷ []) $ fsplit ! $
+            fsplit ! $ fsplit ! $ move ! (2 ∷ []) $ fsplit ! $ fsplit ! $
             rewrite ! 0 (λ (w : A₂.Denot). ‵ (fres δ₂ (A₂.coded.code w))) (h.1.1 ∙ ap (of₂ κs x y) same) refl $
-            rewrite ! 2 (λ (w : A₁.Denot). ‵ (fres δ₁ (A₁.coded.code w))) (h.1.0 ∙ ap (of₁ κs x y) same) refl $
-            keep ! (2 ∷ 0 ∷ []) $ done !))
+            rewrite ! 3 (λ (w : A₁.Denot). ‵ (fres δ₁ (A₁.coded.code w))) (h.1.0 ∙ ap (of₁ κs x y) same) refl $
+            keep ! (3 ∷ 0 ∷ []) $ done !))
 
       pub calls-lent :
           {C : Calls 𝓤 H} {Λ : Loops 𝓤 H} {E : Env 𝓤 H} {Γ : List (Item 𝓤)} {q : Posts 𝓤 H} {ops : List Operand} {to : Place}
           {rest : Code} →
-          FmC 𝓤 H 𝓛.laws C → (key : Name) → Triple 𝓤 (C key) (TwoLent 𝓛) →
+          FmC 𝓤 H 𝓛.laws C → (key : Callee) → Triple 𝓤 (C key) (TwoLent 𝓛) →
           ((i j l : Item 𝓤) → Opds (Go {0}) 𝓛 (i ∷ j ∷ l ∷ Γ) E ops (vptr ld 0 ∷ vptr lf 0 ∷ machine κs (args ks) a)) →
           ((v : Val) → Is R (of κs x y a) (v ∷ []) →
           Seq (Go {0}) 𝓛 (‵ ((mem A₁).own_at (of₁ κs x y a) ld 0) ∷ ‵ ((mem A₂).own_at (of₂ κs x y a) lf 0) ∷ tokens ∷ Γ)

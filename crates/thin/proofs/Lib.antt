@@ -2,6 +2,7 @@ pub mod Data
 pub mod Args
 pub mod Shifts
 pub mod Locals
+pub mod Aside
 pub mod Lent
 pub mod Owns
 pub mod Calls

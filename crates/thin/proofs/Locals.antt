@@ -4,15 +4,15 @@
 --     rooms, cells                   what there is of them: room, or the values vs
 --     idle                           one local that holds nothing, as entries of its own
 --     alloc_all, pass_all, forget-all, free_all      alloc1, pass1, forget and free1
---     past, past-at, finds-at, opd-at      the local k places after them, which is found and read
---     copies, Spots, opds-all        they are read as the operands of a call
+--     past, past-at, finds_at, opd-at      the local k places after them, which is found and read
+--     copies, Spots, opds_all        they are read as the operands of a call
 -- Assumes nothing.
 use mathlib.Core.Path.{◌≡◌, refl, sym, subst}
 use Prim.Native.Nat.{ℕ, suc}
 use mathlib.Core.List.{List, [], ◌∷◌, ◌++◌}
 use lib.ListN.{get_or}
 use seplogic.Ra.Ura.{Ura}
-use seplogic.Ra.TreeShare.{full_share}
+use base.Fraction.{full_share}
 use mir.Syntax.{Ty, Step as PStep, place, Opd as Operand, copy, Local, local, value_local}
 use mir.Val.{Val}
 use base.Logic.{SProp, ent, sep, via}
@@ -82,13 +82,13 @@ spots_first (τ ∷ τs) bs F d = (refl, spots_after (τ, bs.0) (env_of τs bs.1
 -- after two others: the result and the first parameter
 pub spots_third :
     (e f : Ty × ℕ) (τs : List Ty) (bs : Blocks τs) (F : List (Ty × ℕ)) (d : Ty × ℕ) → Spots (e ∷ f ∷ (env_of τs bs ++ F)) 2 τs bs d
-spots_third e f τs bs F d = spots_after e _ 1 τs bs d (spots_after f _ 0 τs bs d (spots_first τs bs F d))
+spots_third e f τs bs F d = spots_after e (f ∷ (env_of τs bs ++ F)) 1 τs bs d (spots_after f (env_of τs bs ++ F) 0 τs bs d (spots_first τs bs F d))
 
 -- after three others: the result and the first two parameters
 pub spots_fourth :
     (e f g : Ty × ℕ) (τs : List Ty) (bs : Blocks τs) (F : List (Ty × ℕ)) (d : Ty × ℕ) →
     Spots (e ∷ f ∷ g ∷ (env_of τs bs ++ F)) 3 τs bs d
-spots_fourth e f g τs bs F d = spots_after e _ 2 τs bs d (spots_third f g τs bs F d)
+spots_fourth e f g τs bs F d = spots_after e (f ∷ g ∷ (env_of τs bs ++ F)) 2 τs bs d (spots_third f g τs bs F d)
 
 module _ {M : Type 1} {𝓤 : Ura M} {𝓛 : Logic 𝓤} {K : Type 0} where
   open 𝓛 use {H}

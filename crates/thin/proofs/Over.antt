@@ -2,9 +2,9 @@
 --     Over of of₁                     its contract: where the slice holds xs, it returns `of κs xs a` and leaves `of₁ κs xs a`
 --     over_e, over_c                    its signature and its clauses
 --     Entry                           what a walk of it has at first
---     Stayed, leaves, stays-meets     a walk that still owns the slice when it ends: what it has to show, its last step, where the
+--     Stayed, leaves, stays_meets     a walk that still owns the slice when it ends: what it has to show, its last step, where the
 --                                     list is zs, and that the function then meets its contract
---     Gave, given, gives-meets        likewise a walk that has passed the slice on for good, and has what says that zs is the last
+--     Gave, given, gives_meets        likewise a walk that has passed the slice on for good, and has what says that zs is the last
 --                                     list
 -- Assumes nothing.
 use mathlib.Core.Path.{◌≡◌, ap, sym, subst}
@@ -102,27 +102,29 @@ module _ (S : RattleType) {n : ℕ} (ps : List (Arg (suc n))) (O : Data) where
             (is-zs : zs ≡ of₁ κs x.now a) (len : length zs ≡ length x.now) (is : Is O.row r (v ∷ [])) where
           abbrev had : List (Item 𝓤)
           had =
-              ‵ (fobs x.name ((coded_holeys S).code (heres S zs))) ∷
-              ‵ (fbor κs.0 (Held S (length zs) x.ptr.0 x.ptr.1 x.name)) ∷ ‵ (flft κs.0 qs.0) ∷ tokens ∷ []
+              ‵ (fobs x.ghost_name ((coded_holeys S).code (heres S zs))) ∷
+              ‵ (fbor κs.0 (Held S (length zs) x.ref_ptr.0 x.ref_ptr.1 x.ghost_name)) ∷ ‵ (flft κs.0 qs.0) ∷ tokens ∷ []
 
           pub leaves : Room S (length x.now) → ent 𝓤 (⋆ 𝓛 had) (Stayed v)
           leaves room =
               qed 𝓛 had ∵
               suffices ! _ (ends_at 𝓛 over_e stays (over_c 𝓤) (y stays) v r (zs, lasts κs ps a) (len, fits κs ps a)) $
               says ! (is-r, is-zs) $ move ! (2 ∷ 3 ∷ []) $ join ! $ frame ! $ fjoin ! $
-              pure_i ! (mut_slice_at S (record { ref_ptr = x.ptr; ghost_name = x.name; now = zs }) (slice_val_here ∷ [])) (tt, (tt, tt))
-              (ap (λ (i : ℕ). slice_val x.ptr i ∷ []) (sym len), subst (Room S) (sym len) room) $ fjoin ! $
+              pure_i ! (mut_slice_at S (record { ref_ptr = x.ref_ptr; ghost_name = x.ghost_name; now = zs }) (slice_val_here ∷ [])) (tt, (tt, tt))
+              (ap (λ (i : ℕ). slice_val x.ref_ptr i ∷ []) (sym len), subst (Room S) (sym len) room) $ fjoin ! $
               use0 𝓛 (‵ (has_of κs (slots ps) (kept ps) (dropped ps) a (lasts κs ps a) (vals κs ps a))) (has_none 𝓛 κs ps a) $
               move ! (1 ∷ 0 ∷ []) $ fjoin ! $ frame ! $ owned ! O.row (Is O.row) (O.makes 𝓛) r _ is $ done !
 
           abbrev told : List (Item 𝓤)
-          told = ‵ (finally S x.name zs) ∷ ‵ (flft κs.0 qs.0) ∷ tokens ∷ []
+          told =
+              ‵ (finally S x.ghost_name zs) ∷ ‵ (fbor κs.0 (Held S (length x.now) x.ref_ptr.0 x.ref_ptr.1 x.ghost_name)) ∷
+              ‵ (flft κs.0 qs.0) ∷ tokens ∷ []
 
           pub given : ent 𝓤 (⋆ 𝓛 told) (Gave v)
           given =
               qed 𝓛 told ∵
               suffices ! _ (ends_at 𝓛 over_e gives (over_c 𝓤) (y gives) v r (zs, lasts κs ps a) (len, fits κs ps a)) $
-              says ! (is-r, is-zs) $ move ! (1 ∷ 2 ∷ []) $ join ! $ frame ! $
+              says ! (is-r, is-zs) $ move ! (2 ∷ 3 ∷ []) $ join ! $ frame ! $ fjoin ! $
               use0 𝓛 (‵ (has_of κs (slots ps) (kept ps) (dropped ps) a (lasts κs ps a) (vals κs ps a))) (has_none 𝓛 κs ps a) $
               move ! (1 ∷ 0 ∷ []) $ fjoin ! $ frame ! $ owned ! O.row (Is O.row) (O.makes 𝓛) r _ is $ done !
 

@@ -21,12 +21,12 @@ use lib.ListN.{length, get_or, length-append}
 use lib.Seq.{append_snoc, get_or-append_seam}
 use lib.WfN.{lt-wf_rel}
 use seplogic.Ra.Ura.{Ura}
-use seplogic.Ra.TreeShare.{full_share}
-use mir.Syntax.{Ty, Name, Fn, Body as Code, named, ty_ref, ty_int, ty_bool, ty_ptr, w64, imm, local, value_local, place, deref, field}
+use base.Fraction.{full_share}
+use mir.Syntax.{Ty, Callee, Fn, Body as Code, named, ty_ref, ty_int, ty_bool, ty_ptr, w64, imm, local, value_local, place, deref, field}
 use mir.Syntax.{copy, int, op2, lt, mul, add, offset, unsigned, rv_opd, skip, seq, assign, block, loop, cond, exit, call, return}
 use mir.Val.{Val, Fits, vbool, vint, vptr}
 use base.Logic.{SProp, ent, emp}
-use base.Fml.{Share, fat, froom, fdies, flft, fshr_bor}
+use base.Fml.{Share, fat, froom, fdies, flft, fhide}
 use prog.Wp.{Env, WpFn, Tables, Closed, Wp, Out, no_local, after_turn, after_block, after_seq, at_return}
 use prog.Model.{Model}
 use prog.Routine.{Routine, Env as Routines}
@@ -39,15 +39,14 @@ use types.Run.{Finds, look, look_raw, init, store, forget, stop, hop, fld, from,
 use types.Run.{assigns_last, stays, leaves_loop, first, blocks, loops, again, Below, exec, land, returns, enter, alloc1, alloc0}
 use types.Run.{params1, pass1, free1, free0}
 use types.Part.{whole, sub, look_in}
-use types.Share.{arr_parts}
 use sound.WpLaws.{fm_of, WpFn-mono}
 use borrow.Author.Rules.{scaled_Fits}
 use borrow.Author.Tests.{lt-ltb, le-ltb}
 use denote.RattleType.{Denots}
 use denote.Laws.{Is, shows, Typed}
-use denote.Memory.{mem, pointee, cell_at, shares}
+use denote.Memory.{mem, pointee, cell_at}
 use denote.Ref.{Bor}
-use denote.Slice.{slice_ty, slice_val, Room}
+use denote.Slice.{slice_ty, slice_val, Room, elements_shared}
 use denote.Index.{place as place_of, place_is, elem_out, elem_back, looks_slice, shuts_slice}
 use denote.Steps.{only, owned}
 use denote.Triple.Statement.{Contract, Triple}
@@ -55,7 +54,7 @@ use denote.Triple.Clauses.{Ended, Clauses}
 use denote.Triple.Table.{entered, cited}
 use denote.Triple.Walked.{says, walk_of, Walks, ends_at, walked, walk_Meets, has_of}
 use Rattle.thin.specs.Fold.{pass}
-use Rattle.thin.proofs.Data.{Data, own_val, copied}
+use Rattle.thin.proofs.Data.{Data, own_val}
 use Rattle.thin.proofs.Init.{Init}
 use Rattle.thin.proofs.Args.{Arg, slice_arg, slots, rows, kept, dropped, tys, spell, tell, vals, machine, typed-all, lasts}
 use Rattle.thin.proofs.Args.{fits, all_go, has_none, owned as held}
@@ -91,7 +90,7 @@ module _ (S : Data) {Q : Data} (D : S.row.Denot) (little : Holds (ltb (mem S.row
   abbrev # : ℕ → ℕ
   # k = suc (suc (past τs k))
 
-  abbrev turn : Name → Code
+  abbrev turn : Callee → Code
   turn key =
       seq (assign (place (# 3) []) (op2 (lt unsigned) (copy (place (# 1) [])) (copy (place (# 2) []))))
       (seq (cond (copy (place (# 3) [])) skip (exit 1))
@@ -104,17 +103,19 @@ module _ (S : Data) {Q : Data} (D : S.row.Denot) (little : Holds (ltb (mem S.row
   abbrev end : Code
   end = seq (assign (place 0 []) (rv_opd (copy (place (# 0) [])))) return
 
-  abbrev code : Name → Code
+  abbrev code : Callee → Code
   code key =
       seq (assign (place (# 0) []) start.rv)
       (seq (assign (place (# 1) []) (rv_opd (int w64 0)))
       (seq (assign (place (# 2) []) (rv_opd (copy (place 1 (field 1 ∷ [])))))
       (seq (block (loop (turn key))) end)))
 
-  abbrev pub pass_fn : Name → Fn
+  abbrev pub pass_fn : Callee → Fn
   pass_fn key = record {
     lifetimes = suc n;
     outlives = [];
+    ty_params = [];
+    givens = 0;
     params = suc (past τs 0);
     locals =
         local Q.mir value_local ∷ local slice_t value_local ∷
@@ -154,7 +155,7 @@ module _ (S : Data) {Q : Data} (D : S.row.Denot) (little : Holds (ltb (mem S.row
       b = x.ref_ptr.0
 
       abbrev o : ℕ
-      o = x.ptr.1
+      o = x.ref_ptr.1
 
       abbrev xs : List X
       xs = x.now
@@ -182,7 +183,7 @@ module _ (S : Data) {Q : Data} (D : S.row.Denot) (little : Holds (ltb (mem S.row
       others = ‵ (held κs.1 (args ks) a')
 
       abbrev shared : Item 𝓤
-      shared = ‵ (fshr_bor κs.0 (λ s. (arr_parts (shares S.row) m).part s xs b o))
+      shared = ‵ (fhide (elements_shared S.row xs b o κs.0))
 
       -- the lifetimes, the shares of their tokens and the arguments that the contract is met at
       abbrev y : (walk_of 𝓛 all_e (dropped inputs) (all_c 𝓤)).Ghost
@@ -203,7 +204,7 @@ module _ (S : Data) {Q : Data} (D : S.row.Denot) (little : Holds (ltb (mem S.row
           (‵ (has_of κs (slots inputs) (kept inputs) (dropped inputs) (x, a) (lasts κs inputs (x, a)) (vals κs inputs (x, a))))
           (has_none 𝓛 κs inputs (x, a)) $ frame ! $ owned ! Q.row (Is Q.row) (Q.makes 𝓛) z _ is $ done !
 
-      module _ (𝓣 : Tables 𝓤 H) (key : Name) (known : Triple 𝓤 (𝓣.C key) (One 𝓛)) (room : Room S.row m)
+      module _ (𝓣 : Tables 𝓤 H) (key : Callee) (known : Triple 𝓤 (𝓣.C key) (One 𝓛)) (room : Room S.row m)
           (ty : Typed τs vs) where
         module _ (l₀ l₁ : ℕ) (bs : Blocks τs) (lq li ln lb lw lp lc : ℕ) where
           abbrev F : List (Ty × ℕ)
@@ -296,7 +297,7 @@ module _ (S : Data) {Q : Data} (D : S.row.Denot) (little : Holds (ltb (mem S.row
               (load ! (to 4) (look ! 11 refl)) tt) (to 5) (init ! 9 refl (tt, tt)) $
               rewrite ! 9 (λ (t : ℕ). ‵ (fat full_share ty_ptr lp 0 (vptr b t)))
               (sym (place_is (mem S.row).size o (length ys))) refl $ move ! (5 ∷ 4 ∷ []) $
-              looks_slice ! tt S.row (Is S.row) (shows 𝓛 S.row) tvals S.tells (copied S 𝓛) xs b o (λ q'.
+              looks_slice ! tt S.row (S.shared 𝓛) xs b o (λ q'.
               elem_out ! S.row (Is S.row) (shows 𝓛 S.row) tvals S.tells q' xs (length ys) D b o small (λ was.
               rewrite ! 0 (at_element q') S.is_mir refl $
               assigns ! (of_opd ! (load ! (finds_at ! (at 5) (hop ! (look ! 12 refl) (stop !))) (look_raw ! 0 refl))) (to 6)
@@ -371,15 +372,15 @@ module _ (S : Data) {Q : Data} (D : S.row.Denot) (little : Holds (ltb (mem S.row
             (WpFn 𝓤 H 𝓣.C 𝓣.Λ (pass_fn key) (sv ∷ vs) Post)
         walk =
             qed 𝓛 (((‵ (flft κs.0 qs.0) ⊛ tokens) ⊛ ‵ (held κs inputs (x, a))) ∷ raw (emp 𝓤) ∷ []) ∵
-            split ! $ split ! $ move ! (2 ∷ []) $ fsplit ! $ fsplit ! $ drop ! $ fsplit ! $ move ! (2 ∷ []) $
-            use1 𝓛 others (owned-down κs 𝓛 ks a) $ keep ! (4 ∷ 0 ∷ 3 ∷ 2 ∷ []) $
+            split ! $ split ! $ move ! (2 ∷ []) $ fsplit ! $ fsplit ! $ drop ! $ move ! (1 ∷ []) $
+            use1 𝓛 others (owned-down κs 𝓛 ks a) $ keep ! (3 ∷ 0 ∷ 2 ∷ 1 ∷ []) $
             -- [the tokens; what the others own; the borrow's token; the borrow]
             enter ! 𝓣.C 𝓣.Λ (pass_fn key) (sv ∷ vs) _ $ alloc1 ! (λ l₀. alloc1 ! (λ l₁. alloc_all ! τs (λ bs.
             alloc1 ! (λ lq. alloc1 ! (λ li. alloc1 ! (λ ln. alloc1 ! (λ lb. alloc1 ! (λ lw. alloc1 ! (λ lp. alloc1 ! (λ lc.
             alloc0 ! $ params1 ! $ pass1 ! (init ! 15 refl (tt, (tt, (record { fits = room.0 }, tt)))) $ move ! (14 ∷ []) $
             pass_all ! τs bs vs (F l₀ l₁ bs lq li ln lb lw lp lc) ty $ body l₀ l₁ bs lq li ln lb lw lp lc))))))))))
 
-    module _ {M : Type 1} {𝓤 : Ura M} (𝓛 : Logic 𝓤) (𝓣 : Tables 𝓤 𝓛.H) (key : Name)
+    module _ {M : Type 1} {𝓤 : Ura M} (𝓛 : Logic 𝓤) (𝓣 : Tables 𝓤 𝓛.H) (key : Callee)
         (known : Triple 𝓤 (𝓣.C key) (One 𝓛)) where
       open 𝓛 use {H}
 
@@ -398,7 +399,7 @@ module _ (S : Data) {Q : Data} (D : S.row.Denot) (little : Holds (ltb (mem S.row
     -- env has all at the name k, and the routine r of g at the name key
     pub passes :
         {M : Type 1} {𝓤 : Ura M} (𝓛 : Logic 𝓤) (𝓜 : Model 𝓤 𝓛.H) (𝓡 : Running 𝓤 𝓛.H 𝓜) (env : Routines)
-        (k key : Name) (r : Routine) → env key ≡ r → Closed 𝓤 𝓛.H (tables 𝓤 𝓛.H 𝓜 𝓡 env).C (tables 𝓤 𝓛.H 𝓜 𝓡 env).Λ k (pass_fn key) →
+        (k key : Callee) (r : Routine) → env key ≡ r → Closed 𝓤 𝓛.H (tables 𝓤 𝓛.H 𝓜 𝓡 env).C (tables 𝓤 𝓛.H 𝓜 𝓡 env).Λ k (pass_fn key) →
         Triple 𝓤 (𝓡.run r) (One 𝓛) → Triple 𝓤 (𝓡.run (env k)) (All 𝓛)
     unfolding tables_of
     passes {𝓤 = 𝓤} 𝓛 𝓜 𝓡 env k key r calls closed met =

@@ -18,7 +18,7 @@ use base.Logic.{ent, sep, id⊢, mono∗}
 use types.Logic.{Logic, sem}
 use contract.Lifetimes.{Lfts, Within}
 use types.Kit.{Item, ‵, ◌⊛◌, ◌$◌, ◌∵◌, !, qed, move, use1, split, fsplit, fjoin, done}
-use denote.RattleType.{RattleType, Denots}
+use denote.RattleType.{RattleType, RowLaws, Denots}
 use denote.Slice.{shr_slice_copy}
 use denote.Signature.{meet_at}
 use denote.Steps.{nothing}
@@ -27,18 +27,18 @@ use Rattle.thin.proofs.Args.{Arg, plain_arg, slice_arg, rows, machine, owned}
 
 pub data Kind (n : ℕ) : Type 2 where
   by_value : Data → Kind n
-  slice : (j : ℕ) → Within n j → RattleType → Kind n
+  slice : (j : ℕ) → Within n j → (R : RattleType) → RowLaws R → Kind n
 
 abbrev pub num : {n : ℕ} → Width → Kind n
 num w = by_value (uint w)
 
 abbrev arg : {n : ℕ} → Kind n → Arg n
 arg (by_value d) = plain_arg d
-arg (slice j ok R) = slice_arg j ok R
+arg (slice j ok R laws) = slice_arg j ok R
 
 abbrev shift : {n : ℕ} → Kind n → Kind (suc n)
 shift (by_value d) = by_value d
-shift (slice j ok R) = slice (suc j) ok R
+shift (slice j ok R laws) = slice (suc j) ok R laws
 
 abbrev pub args : {n : ℕ} → List (Kind n) → List (Arg n)
 args [] = []
@@ -52,19 +52,19 @@ module _ {n : ℕ} (κs : Lfts (suc n)) where
   -- one argument
   abbrev down₁ : (k : Kind n) → ((arg (shift k)).slot.row κs).Denot → ((arg k).slot.row κs.1).Denot
   down₁ (by_value d) x = x
-  down₁ (slice j ok R) x = x
+  down₁ (slice j ok R laws) x = x
 
   abbrev up₁ : (k : Kind n) → ((arg k).slot.row κs.1).Denot → ((arg (shift k)).slot.row κs).Denot
   up₁ (by_value d) x = x
-  up₁ (slice j ok R) x = x
+  up₁ (slice j ok R laws) x = x
 
   down-up₁ : (k : Kind n) (x : ((arg k).slot.row κs.1).Denot) → down₁ k (up₁ k x) ≡ x
   down-up₁ (by_value d) x = refl
-  down-up₁ (slice j ok R) x = refl
+  down-up₁ (slice j ok R laws) x = refl
 
   val-down₁ : (k : Kind n) (x : ((arg (shift k)).slot.row κs).Denot) → (arg k).val κs.1 (down₁ k x) ≡ (arg (shift k)).val κs x
   val-down₁ (by_value d) x = refl
-  val-down₁ (slice j ok R) x = refl
+  val-down₁ (slice j ok R laws) x = refl
 
   -- all of them
   abbrev pub down : (ks : List (Kind n)) → Denots (rows (args (shifts ks)) κs) → Denots (rows (args ks) κs.1)
@@ -96,14 +96,14 @@ module _ {n : ℕ} (κs : Lfts (suc n)) where
         ent 𝓤 (sem 𝓛 (((arg (shift k)).slot.row κs).own_val x ((arg (shift k)).val κs x ∷ [])))
         (sem 𝓛 (((arg k).slot.row κs.1).own_val (down₁ k x) ((arg k).val κs.1 (down₁ k x) ∷ [])))
     owned-down₁ (by_value d) x = id⊢ 𝓤 _
-    owned-down₁ (slice j ok R) x = id⊢ 𝓤 _
+    owned-down₁ (slice j ok R laws) x = id⊢ 𝓤 _
 
     owned-up₁ :
         (k : Kind n) (x : ((arg k).slot.row κs.1).Denot) →
         ent 𝓤 (sem 𝓛 (((arg k).slot.row κs.1).own_val x ((arg k).val κs.1 x ∷ [])))
         (sem 𝓛 (((arg (shift k)).slot.row κs).own_val (up₁ k x) ((arg (shift k)).val κs (up₁ k x) ∷ [])))
     owned-up₁ (by_value d) x = id⊢ 𝓤 _
-    owned-up₁ (slice j ok R) x = id⊢ 𝓤 _
+    owned-up₁ (slice j ok R laws) x = id⊢ 𝓤 _
 
     pub owned-down :
         (ks : List (Kind n)) (a : Denots (rows (args (shifts ks)) κs)) →
@@ -123,7 +123,7 @@ module _ {n : ℕ} {M : Type 1} {𝓤 : Ura M} (𝓛 : Logic 𝓤) (κs : Lfts n
       ent 𝓤 (sem 𝓛 (((arg k).slot.row κs).own_val x vs))
       (sep 𝓤 (sem 𝓛 (((arg k).slot.row κs).own_val x vs)) (sem 𝓛 (((arg k).slot.row κs).own_val x vs)))
   twice₁ (by_value d) x vs = (copied d 𝓛).twice x vs
-  twice₁ (slice j ok R) x vs = (shr_slice_copy 𝓛 (named j) (meet_at n (j ∷ []) ok κs) R).twice x vs
+  twice₁ (slice j ok R laws) x vs = (shr_slice_copy 𝓛 (named j) (meet_at n (j ∷ []) ok κs) R laws).twice x vs
 
   pub twice :
       (ks : List (Kind n)) (a : Denots (rows (args ks) κs)) →

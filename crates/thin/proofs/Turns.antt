@@ -43,8 +43,8 @@ use lib.ListN.{length, get_or, length-append}
 use lib.Seq.{append_snoc, get_or-append_seam, set-append_seam}
 use lib.WfN.{lt-wf_rel}
 use seplogic.Ra.Ura.{Ura}
-use seplogic.Ra.TreeShare.{full_share}
-use mir.Syntax.{Ty, Name, Fn, Body as Code, Opd as Operand, named, erased, ty_ref, ty_int, ty_bool, ty_ptr, w8, w64, mut, local}
+use base.Fraction.{full_share}
+use mir.Syntax.{Ty, Callee, Fn, Body as Code, Opd as Operand, named, erased, ty_ref, ty_int, ty_bool, ty_ptr, w8, w64, mut, local}
 use mir.Syntax.{value_local, memory_slot, place, deref, field, copy, int, op2, lt, ne, mul, add, offset, unsigned, rv_opd, addr_of}
 use mir.Syntax.{skip, seq, assign, block, loop, cond, exit, call, return}
 use mir.Val.{Val, Fits, vbool, vint, vptr}
@@ -87,6 +87,8 @@ use Rattle.thin.proofs.Lends.{Of, TwoLent, calls-lent}
 use Rattle.thin.proofs.Over.{Over, Entry, Stayed, leaves, stays_meets}
 use Rattle.thin.proofs.Along.{along-end, along_snoc, serving, refusing, cases, is_zero, is-more, next_fits}
 use Rattle.thin.proofs.Folded.{unopened, begun}
+use Rattle.thin.proofs.Aside.{aside, extra, held as moved, put, outs, sets_aside, reads_aside, spots_aside}
+use Rattle.thin.proofs.Locals.{Spots, rooms}
 use Rattle.thin.proofs.Locals.{Blocks, locals_of, env_of, cells, idle, copies, past, past-at, spots_fourth, alloc_all}
 use Rattle.thin.proofs.Locals.{pass_all, forget-all, free_all, finds_at, opd-at, opds_all}
 
@@ -153,39 +155,53 @@ module _ {S Q A₁ A₂ : Data} (K : Data) (B : Two (uint w8) Q) (T : Three (uin
   abbrev slice_t : Ty
   slice_t = slice_ty (ty_ref (named 0) mut (pointee S.row.written))
 
-  -- the local j places after the parameters: d, f, opened, q, i, the turn, the two references that open gets, a test, the length,
-  -- a test, the two references that g gets, the scaled index, the place that is read, what is read, the place that is written, and
-  -- the length again
+  -- the local j places after the parameters: d, f, opened, q, i, the turn, the two references that open gets, and a test
   abbrev # : ℕ → ℕ
   # j = suc (suc (suc (past τs j)))
 
-  module _ (open-key turn-key done-key : Name) where
+  -- then the state of opened, where MIR copies it before it hands it out (`Aside.antt`)
+  abbrev apart : Bool
+  apart = aside Q.mir
+
+  abbrev spare : List Ty
+  spare = extra apart Q.mir
+
+  abbrev nine : ℕ → ℕ
+  nine j = suc (suc (suc (suc (suc (suc (suc (suc (suc j))))))))
+
+  -- the local j places after that: the length, a test, the two references that g gets, the scaled index, the place that is read,
+  -- what is read, the element that the turn gives, the place that is written, and the length again
+  abbrev ## : ℕ → ℕ
+  ## j = # (nine (past spare j))
+
+  module _ (open-key turn-key done-key : Callee) where
     abbrev turn : Code
     turn =
-        seq (assign (place (# 10) []) (op2 (lt unsigned) (copy (place (# 4) [])) (copy (place (# 9) []))))
-        (seq (cond (copy (place (# 10) [])) skip (exit 1))
-        (seq (assign (place (# 11) []) (addr_of (place (# 0) [])))
-        (seq (assign (place (# 12) []) (addr_of (place (# 1) [])))
-        (seq (assign (place (# 13) []) (op2 (mul unsigned) (copy (place (# 4) [])) (int w64 (mem S.row).size)))
-        (seq (assign (place (# 14) []) (op2 offset (copy (place 1 (field 0 ∷ []))) (copy (place (# 13) []))))
-        (seq (assign (place (# 15) []) (rv_opd (copy (place (# 14) (deref S.mir ∷ [])))))
+        seq (assign (place (## 1) []) (op2 (lt unsigned) (copy (place (# 4) [])) (copy (place (## 0) []))))
+        (seq (cond (copy (place (## 1) [])) skip (exit 1))
+        (seq (assign (place (## 2) []) (addr_of (place (# 0) [])))
+        (seq (assign (place (## 3) []) (addr_of (place (# 1) [])))
+        (seq (assign (place (## 4) []) (op2 (mul unsigned) (copy (place (# 4) [])) (int w64 (mem S.row).size)))
+        (seq (assign (place (## 5) []) (op2 offset (copy (place 1 (field 0 ∷ []))) (copy (place (## 4) []))))
+        (seq (assign (place (## 6) []) (rv_opd (copy (place (## 5) (deref S.mir ∷ [])))))
         (seq (call turn-key
-        (copy (place (# 11) []) ∷ copy (place (# 12) []) ∷ copy (place (# 15) []) ∷ copy (place (# 3) []) ∷ copies 3 τs)
+        (copy (place (## 2) []) ∷ copy (place (## 3) []) ∷ copy (place (## 6) []) ∷ copy (place (# 3) []) ∷ copies 3 τs)
         (place (# 5) []))
-        (seq (assign (place (# 10) []) (op2 ne (copy (place (# 5) (field 0 ∷ []))) (int w8 0)))
-        (seq (cond (copy (place (# 10) []))
+        (seq (assign (place (## 1) []) (op2 ne (copy (place (# 5) (field 0 ∷ []))) (int w8 0)))
+        (seq (cond (copy (place (## 1) []))
         (seq (call done-key (copy (place (# 5) (field 0 ∷ [])) ∷ copy (place (# 4) []) ∷ copy (place (# 3) []) ∷ []) (place 0 []))
         return) skip)
-        (seq (assign (place (# 13) []) (op2 (mul unsigned) (copy (place (# 4) [])) (int w64 (mem S.row).size)))
-        (seq (assign (place (# 16) []) (op2 offset (copy (place 1 (field 0 ∷ []))) (copy (place (# 13) []))))
-        (seq (assign (place (# 16) (deref S.mir ∷ [])) (rv_opd (copy (place (# 5) (field 1 ∷ [])))))
+        (seq (assign (place (## 7) []) (rv_opd (copy (place (# 5) (field 1 ∷ [])))))
+        (seq (assign (place (## 4) []) (op2 (mul unsigned) (copy (place (# 4) [])) (int w64 (mem S.row).size)))
+        (seq (assign (place (## 8) []) (op2 offset (copy (place 1 (field 0 ∷ []))) (copy (place (## 4) []))))
+        (seq (assign (place (## 8) (deref S.mir ∷ [])) (rv_opd (copy (place (## 7) []))))
         (seq (assign (place (# 3) []) (rv_opd (copy (place (# 5) (field 2 ∷ [])))))
-        (assign (place (# 4) []) (op2 (add unsigned) (copy (place (# 4) [])) (int w64 1))))))))))))))))
+        (assign (place (# 4) []) (op2 (add unsigned) (copy (place (# 4) [])) (int w64 1)))))))))))))))))
 
     abbrev end : Code
     end =
-        seq (assign (place (# 17) []) (rv_opd (copy (place 1 (field 1 ∷ [])))))
-        (seq (call done-key (int w8 0 ∷ copy (place (# 17) []) ∷ copy (place (# 3) []) ∷ []) (place 0 [])) return)
+        seq (assign (place (## 9) []) (rv_opd (copy (place 1 (field 1 ∷ [])))))
+        (seq (call done-key (int w8 0 ∷ copy (place (## 9) []) ∷ copy (place (# 3) []) ∷ []) (place 0 [])) return)
 
     abbrev code : Code
     code =
@@ -196,25 +212,30 @@ module _ {S Q A₁ A₂ : Data} (K : Data) (B : Two (uint w8) Q) (T : Three (uin
         (seq (call open-key (copy (place (# 6) []) ∷ copy (place (# 7) []) ∷ copy (place 2 []) ∷ copies 3 τs) (place (# 2) []))
         (seq (assign (place (# 8) []) (op2 ne (copy (place (# 2) (field 0 ∷ []))) (int w8 0)))
         (seq (cond (copy (place (# 8) []))
-        (seq (call done-key (copy (place (# 2) (field 0 ∷ [])) ∷ int w64 0 ∷ copy (place (# 2) (field 1 ∷ [])) ∷ []) (place 0 []))
-        return) skip)
+        (put apart (# 9) (place (# 2) (field 1 ∷ []))
+        (seq (call done-key
+        (copy (place (# 2) (field 0 ∷ [])) ∷ int w64 0 ∷ outs apart (# 9) (place (# 2) (field 1 ∷ []))) (place 0 [])) return)) skip)
         (seq (assign (place (# 3) []) (rv_opd (copy (place (# 2) (field 1 ∷ [])))))
         (seq (assign (place (# 4) []) (rv_opd (int w64 0)))
-        (seq (assign (place (# 9) []) (rv_opd (copy (place 1 (field 1 ∷ [])))))
+        (seq (assign (place (## 0) []) (rv_opd (copy (place 1 (field 1 ∷ [])))))
         (seq (block (loop turn)) end))))))))))
 
     abbrev pub turns_fn : Fn
     turns_fn = record {
       lifetimes = suc n;
       outlives = [];
+      ty_params = [];
+      givens = 0;
       params = suc (suc (past τs 0));
       locals =
           local O.mir value_local ∷ local slice_t value_local ∷ local K.mir value_local ∷
           (locals_of τs ++
           (local A₁.mir memory_slot ∷ local A₂.mir memory_slot ∷ local TyB value_local ∷ local Q.mir value_local ∷
           local word value_local ∷ local TyT value_local ∷ local ref₁ value_local ∷ local ref₂ value_local ∷ local ty_bool value_local ∷
-          local word value_local ∷ local ty_bool value_local ∷ local ref₁ value_local ∷ local ref₂ value_local ∷ local word value_local ∷
-          local ty_ptr value_local ∷ local S.mir value_local ∷ local ty_ptr value_local ∷ local word value_local ∷ []));
+          (locals_of spare ++
+          (local word value_local ∷ local ty_bool value_local ∷ local ref₁ value_local ∷ local ref₂ value_local ∷
+          local word value_local ∷ local ty_ptr value_local ∷ local S.mir value_local ∷ local S.mir value_local ∷
+          local ty_ptr value_local ∷ local word value_local ∷ []))));
       body = code;
     }
 
@@ -271,7 +292,7 @@ module _ {S Q A₁ A₂ : Data} (K : Data) (B : Two (uint w8) Q) (T : Three (uin
       b = x.ref_ptr.0
 
       abbrev o : ℕ
-      o = x.ptr.1
+      o = x.ref_ptr.1
 
       abbrev xs : List X
       xs = x.now
@@ -327,18 +348,23 @@ module _ {S Q A₁ A₂ : Data} (K : Data) (B : Two (uint w8) Q) (T : Three (uin
       abbrev Post : Val → SProp 𝓤
       Post = Stayed S.row inputs O of of₁ 𝓛 κs qs x (k, a)
 
-      module _ (𝓣 : Tables 𝓤 H) (open-key turn-key done-key : Name) (open-known : Triple 𝓤 (𝓣.C open-key) (Open 𝓛))
+      module _ (𝓣 : Tables 𝓤 H) (open-key turn-key done-key : Callee) (open-known : Triple 𝓤 (𝓣.C open-key) (Open 𝓛))
           (turn-known : Triple 𝓤 (𝓣.C turn-key) (One 𝓛)) (done-known : Triple 𝓤 (𝓣.C done-key) (Done 𝓛))
           (room : Room S.row m) (is-k : Is K.row k (K.val k ∷ [])) (ty : Typed τs vs) where
         abbrev fm : FmC 𝓤 H 𝓛.laws 𝓣.C
         fm = fm_of 𝓤 H 𝓛.laws 𝓣
 
-        module _ (l₀ l₁ l₂ : ℕ) (bs : Blocks τs) (ld lf lg lq li lt' lx ly lh ln lb lx' ly' lw lp lc lv ll : ℕ) where
+        module _ (l₀ l₁ l₂ : ℕ) (bs : Blocks τs) (ld lf lg lq li lt' lx ly lh : ℕ) (bx : Blocks spare)
+            (ln lb lx' ly' lw lp lc le lv ll : ℕ) where
+          abbrev F' : List (Ty × ℕ)
+          F' =
+              (word, ln) ∷ (ty_bool, lb) ∷ (ref₁, lx') ∷ (ref₂, ly') ∷ (word, lw) ∷ (ty_ptr, lp) ∷ (S.mir, lc) ∷ (S.mir, le) ∷
+              (ty_ptr, lv) ∷ (word, ll) ∷ []
+
           abbrev F : List (Ty × ℕ)
           F =
               (A₁.mir, ld) ∷ (A₂.mir, lf) ∷ (TyB, lg) ∷ (Q.mir, lq) ∷ (word, li) ∷ (TyT, lt') ∷ (ref₁, lx) ∷ (ref₂, ly) ∷
-              (ty_bool, lh) ∷ (word, ln) ∷ (ty_bool, lb) ∷ (ref₁, lx') ∷ (ref₂, ly') ∷ (word, lw) ∷ (ty_ptr, lp) ∷ (S.mir, lc) ∷
-              (ty_ptr, lv) ∷ (word, ll) ∷ []
+              (ty_bool, lh) ∷ (env_of spare bx ++ F')
 
           abbrev E : Env 𝓤 H
           E = (O.mir, l₀) ∷ (slice_t, l₁) ∷ (K.mir, l₂) ∷ (env_of τs bs ++ F)
@@ -350,6 +376,17 @@ module _ {S Q A₁ A₂ : Data} (K : Data) (B : Two (uint w8) Q) (T : Three (uin
               {Γ : List (Item 𝓤)} (j : ℕ) →
               Finds (Go {0}) 𝓛 Γ E (place (# j) []) ((get_or F j (no_local 𝓤 H)).0, (get_or F j (no_local 𝓤 H)).1, 0)
           to j = finds_at ! (at j) (stop !)
+
+          at' : (j : ℕ) → get_or E (## j) (no_local 𝓤 H) ≡ get_or F' j (no_local 𝓤 H)
+          at' j = at (nine (past spare j)) ∙ past-at spare bx F' j (no_local 𝓤 H)
+
+          to' :
+              {Γ : List (Item 𝓤)} (j : ℕ) →
+              Finds (Go {0}) 𝓛 Γ E (place (## j) []) ((get_or F' j (no_local 𝓤 H)).0, (get_or F' j (no_local 𝓤 H)).1, 0)
+          to' j = finds_at ! (at' j) (stop !)
+
+          spots : Spots E (# 9) spare bx (no_local 𝓤 H)
+          spots = spots_aside apart Q.mir bx E F' (# 9) (no_local 𝓤 H) (at 9)
 
           -- ys are served, zs are left, and the state is z: [the elements; i; q; d; f]
           abbrev Parts : List X → List X → State → List (Item 𝓤)
@@ -383,17 +420,18 @@ module _ {S Q A₁ A₂ : Data} (K : Data) (B : Two (uint w8) Q) (T : Three (uin
               mean 𝓛 (given (Inv t j.0 j.1.0 j.1.1) (parts j.0 j.1.0 j.1.1)))
               (ys, (zs, z)) $ check ! inv $ done !
 
-          -- the rest of the context: [the tokens; what the others own; the open borrow; obs; auth; the others' cells; the length
-          -- again; …; the place written; …; what is read; …; the place read; …; the scaled index; …; g's second reference; …; its
+          -- the rest of the context: [the tokens; what the others own; the open borrow; obs; auth; the others' cells; room for
+          -- the state of opened; the length again; …; the place written; …; the element that the turn gives; …; what is read; …; the place read; …; the scaled index; …; g's second reference; …; its
           -- first; …; a test; …; the length; …; a test; …; open's second reference; …; its first; …; the turn; …; the right to free
           -- i; that to free q; opened; …; the right to free f; that to free d; k; …; the slice; …; _0; …]
           abbrev Rest : Item 𝓤 → Item 𝓤 → List (Item 𝓤)
           Rest count result =
-              tokens ∷ others ∷ ‵ (fobor κs.0 qs.0 (Held S.row m b o x.name)) ∷
-              ‵ (fobs x.name ((coded_holeys S.row).code (heres S.row xs))) ∷
-              ‵ (fauth x.name ((coded_holeys S.row).code (heres S.row xs))) ∷ ‵ (cells τs bs vs) ∷
-              (idle word ll ++ idle ty_ptr lv ++ idle S.mir lc ++ idle ty_ptr lp ++ idle word lw ++ idle ref₂ ly' ++
-              idle ref₁ lx' ++ idle ty_bool lb ++ (count ∷ ‵ (fdies word ln) ∷ []) ++ idle ty_bool lh ++ idle ref₂ ly ++
+              tokens ∷ others ∷ ‵ (fobor κs.0 qs.0 (Held S.row m b o x.ghost_name)) ∷
+              ‵ (fobs x.ghost_name ((coded_holeys S.row).code (heres S.row xs))) ∷
+              ‵ (fauth x.ghost_name ((coded_holeys S.row).code (heres S.row xs))) ∷ ‵ (cells τs bs vs) ∷
+              ‵ (rooms spare bx) ∷
+              (idle word ll ++ idle ty_ptr lv ++ idle S.mir le ++ idle S.mir lc ++ idle ty_ptr lp ++ idle word lw ++
+              idle ref₂ ly' ++ idle ref₁ lx' ++ idle ty_bool lb ++ (count ∷ ‵ (fdies word ln) ∷ []) ++ idle ty_bool lh ++ idle ref₂ ly ++
               idle ref₁ lx ++ idle TyT lt' ++ (‵ (fdies word li) ∷ ‵ (fdies Q.mir lq) ∷ []) ++ idle TyB lg ++
               (‵ (fdies A₂.mir lf) ∷ ‵ (fdies A₁.mir ld) ∷ ‵ (fat full_share K.mir l₂ 0 (K.val k)) ∷
               ‵ (fdies K.mir l₂) ∷ ‵ (fat full_share slice_t l₁ 0 sv) ∷ ‵ (fdies slice_t l₁) ∷ result ∷ ‵ (fdies O.mir l₀) ∷ []))
@@ -444,12 +482,13 @@ module _ {S Q A₁ A₂ : Data} (K : Data) (B : Two (uint w8) Q) (T : Three (uin
               Seq (Go {0}) 𝓛 (Idle ys (‵ (fat full_share O.mir l₀ 0 v))) (runs 𝓣.C 𝓣.Λ E return q)
           ends v r ys is-r is-ys len is at_return_lem =
               move ! (0 ∷ 7 ∷ 8 ∷ 9 ∷ []) $ closes_slice ! tt S.row xs ys len b o $
-              returns_within ! Post at_return_lem (look ! 46 refl) $ forget ! 46 refl $ forget ! 44 refl $ forget ! 42 refl $
-              move ! (46 ∷ 47 ∷ []) $ free1 ! $ move ! (44 ∷ 45 ∷ []) $ free1 ! $ move ! (42 ∷ 43 ∷ []) $ free1 ! $
-              move ! (9 ∷ []) $ forget-all ! τs bs vs $ free_all ! τs bs F $ move ! (3 ∷ 40 ∷ []) $ free1 ! $
-              move ! (3 ∷ 38 ∷ []) $ free1 ! $ move ! (35 ∷ 36 ∷ []) $ free1 ! $ move ! (3 ∷ 34 ∷ []) $ free1 ! $
-              move ! (3 ∷ 32 ∷ []) $ free1 ! $ move ! (29 ∷ 30 ∷ []) $ free1 ! $ move ! (27 ∷ 28 ∷ []) $ free1 ! $
-              move ! (25 ∷ 26 ∷ []) $ free1 ! $ move ! (23 ∷ 24 ∷ []) $ free1 ! $ move ! (21 ∷ 22 ∷ []) $ free1 ! $
+              returns_within ! Post at_return_lem (look ! 49 refl) $ forget ! 49 refl $ forget ! 47 refl $ forget ! 45 refl $
+              move ! (49 ∷ 50 ∷ []) $ free1 ! $ move ! (47 ∷ 48 ∷ []) $ free1 ! $ move ! (45 ∷ 46 ∷ []) $ free1 ! $
+              move ! (9 ∷ []) $ forget-all ! τs bs vs $ free_all ! τs bs F $ move ! (3 ∷ 43 ∷ []) $ free1 ! $
+              move ! (3 ∷ 41 ∷ []) $ free1 ! $ move ! (38 ∷ 39 ∷ []) $ free1 ! $ move ! (3 ∷ 37 ∷ []) $ free1 ! $
+              move ! (3 ∷ 35 ∷ []) $ free1 ! $ move ! (32 ∷ 33 ∷ []) $ free1 ! $ move ! (30 ∷ 31 ∷ []) $ free1 ! $
+              move ! (28 ∷ 29 ∷ []) $ free1 ! $ move ! (26 ∷ 27 ∷ []) $ free1 ! $ move ! (5 ∷ []) $ free_all ! spare bx F' $
+              move ! (23 ∷ 24 ∷ []) $ free1 ! $ move ! (21 ∷ 22 ∷ []) $ free1 ! $
               move ! (19 ∷ 20 ∷ []) $ free1 ! $ move ! (17 ∷ 18 ∷ []) $ free1 ! $ move ! (15 ∷ 16 ∷ []) $ free1 ! $
               move ! (13 ∷ 14 ∷ []) $ free1 ! $ move ! (11 ∷ 12 ∷ []) $ free1 ! $ move ! (9 ∷ 10 ∷ []) $ free1 ! $
               move ! (7 ∷ 8 ∷ []) $ free1 ! $ move ! (5 ∷ 6 ∷ []) $ free1 ! $ free0 ! $ keep ! (0 ∷ 1 ∷ 2 ∷ 3 ∷ []) $
@@ -462,20 +501,20 @@ module _ {S Q A₁ A₂ : Data} (K : Data) (B : Two (uint w8) Q) (T : Three (uin
               let all_done : length ys ≡ m = sym (add-zero (length ys)) ∙ inv.1.0 in
               let last : ran ≡ (0, (m, (ys ++ [], z))) =
               inv.1.1.0 ∙ along-end ys 0 [] z ∙ ap (λ (j : ℕ). (0, (j, (ys ++ [], z)))) all_done in
-              assigns ! (bin ! (load ! (to 4) (look ! 1 refl)) (load ! (to 9) (look ! 27 refl)) tt) (to 10)
-              (init ! 25 refl (tt, tt)) $
-              rewrite ! 25 (λ (t : Bool). ‵ (fat full_share ty_bool lb 0 (vbool t)))
+              assigns ! (bin ! (load ! (to 4) (look ! 1 refl)) (load ! (to' 0) (look ! 30 refl)) tt) (to' 1)
+              (init ! 28 refl (tt, tt)) $
+              rewrite ! 28 (λ (t : Bool). ‵ (fat full_share ty_bool lb 0 (vbool t)))
               (le-ltb (length ys) m (le_of_eq (sym all_done))) refl $
-              leaves_loop ! (load ! (to 10) (look ! 25 refl)) $
+              leaves_loop ! (load ! (to' 1) (look ! 28 refl)) $
               exec ! 𝓣.C 𝓣.Λ E (end open-key turn-key done-key) (at_ret E Post) $
-              assigns ! (of_opd ! (load ! (from ! (fld ! refl (stop !))) (look_in ! 45 (sub ! 1 refl (whole !))))) (to 17)
-              (init ! 11 refl (tt, record { fits = room.0 })) $
+              assigns ! (of_opd ! (load ! (from ! (fld ! refl (stop !))) (look_in ! 48 (sub ! 1 refl (whole !))))) (to' 9)
+              (init ! 12 refl (tt, record { fits = room.0 })) $
               move ! (3 ∷ []) $ vacates A₁ 𝓛 _ ld $ move ! (4 ∷ []) $ vacates A₂ 𝓛 _ lf $
               hands 0 m z.0 (refl, lit< tt) (refl, room.0) inv.1.1.1
               (λ _. and_then ! (lit ! tt)
-              (and_then ! (opd-at ! (at 17) (look ! 12 refl)) (and_then ! (opd-at ! (at 3) (look ! 5 refl)) (no_more !)))) (λ v is.
-              land ! (from ! (stop !)) (init ! 47 refl (O.typed 𝓛 (fin 0 m z.0) _ is)) $
-              forget ! 11 refl $ forget ! 3 refl $ forget ! 4 refl $ forget ! 25 refl $ forget ! 27 refl $
+              (and_then ! (opd-at ! (at' 9) (look ! 13 refl)) (and_then ! (opd-at ! (at 3) (look ! 5 refl)) (no_more !)))) (λ v is.
+              land ! (from ! (stop !)) (init ! 50 refl (O.typed 𝓛 (fin 0 m z.0) _ is)) $
+              forget ! 12 refl $ forget ! 3 refl $ forget ! 4 refl $ forget ! 28 refl $ forget ! 30 refl $
               move ! (2 ∷ 1 ∷ 0 ∷ 4 ∷ 3 ∷ []) $
               ends v (fin 0 m z.0) (ys ++ []) (answered 0 m (ys ++ []) z last) (left 0 m (ys ++ []) z last)
               (length-append ys [] ∙ inv.1.0) is refl)
@@ -486,23 +525,23 @@ module _ {S Q A₁ A₂ : Data} (K : Data) (B : Two (uint w8) Q) (T : Three (uin
               Seq (Go {0}) 𝓛 (Parts ys (e ∷ rest) z ++ Frame) (Round t)
           unfolding after_turn
           one t ys e rest z inv =
-              assigns ! (bin ! (load ! (to 4) (look ! 1 refl)) (load ! (to 9) (look ! 27 refl)) tt) (to 10)
-              (init ! 25 refl (tt, tt)) $
-              rewrite ! 25 (λ (t : Bool). ‵ (fat full_share ty_bool lb 0 (vbool t))) (lt-ltb (length ys) m small) refl $
-              stays ! (load ! (to 10) (look ! 25 refl)) $
+              assigns ! (bin ! (load ! (to 4) (look ! 1 refl)) (load ! (to' 0) (look ! 30 refl)) tt) (to' 1)
+              (init ! 28 refl (tt, tt)) $
+              rewrite ! 28 (λ (t : Bool). ‵ (fat full_share ty_bool lb 0 (vbool t))) (lt-ltb (length ys) m small) refl $
+              stays ! (load ! (to' 1) (look ! 28 refl)) $
               -- the element is copied out, and g is called
-              assigns ! (addr ! (to 0)) (to 11) (init ! 23 refl (tt, tt)) $
-              assigns ! (addr ! (to 1)) (to 12) (init ! 21 refl (tt, tt)) $
-              assigns ! (bin ! (load ! (to 4) (look ! 1 refl)) (lit ! little) scaled) (to 13) (init ! 19 refl (tt, scaled)) $
-              assigns ! (bin ! (load ! (from ! (fld ! refl (stop !))) (look_in ! 45 (sub ! 0 refl (whole !))))
-              (load ! (to 13) (look ! 19 refl)) tt) (to 14) (init ! 17 refl (tt, tt)) $
-              rewrite ! 17 (λ (t : ℕ). ‵ (fat full_share ty_ptr lp 0 (vptr b t)))
+              assigns ! (addr ! (to 0)) (to' 2) (init ! 26 refl (tt, tt)) $
+              assigns ! (addr ! (to 1)) (to' 3) (init ! 24 refl (tt, tt)) $
+              assigns ! (bin ! (load ! (to 4) (look ! 1 refl)) (lit ! little) scaled) (to' 4) (init ! 22 refl (tt, scaled)) $
+              assigns ! (bin ! (load ! (from ! (fld ! refl (stop !))) (look_in ! 48 (sub ! 0 refl (whole !))))
+              (load ! (to' 4) (look ! 22 refl)) tt) (to' 5) (init ! 20 refl (tt, tt)) $
+              rewrite ! 20 (λ (t : ℕ). ‵ (fat full_share ty_ptr lp 0 (vptr b t)))
               (sym (place_is (mem S.row).size o (length ys))) refl $
               elem_out ! S.row (Is S.row) (shows 𝓛 S.row) tvals S.tells full_share cur (length ys) D b o within
               (λ was. rewrite ! 0 (at_element (get_or cur (length ys) D)) S.is_mir refl $
-              assigns ! (of_opd ! (load ! (finds_at ! (at 14) (hop ! (look ! 19 refl) (stop !))) (look_raw ! 0 refl))) (to 15)
-              (init ! 17 refl (S.typed 𝓛 (get_or cur (length ys) D) _ was)) $
-              rewrite ! 17 (λ (t : X). ‵ (fat full_share S.mir lc 0 (S.val t))) (get_or-append_seam ys e rest D) refl $
+              assigns ! (of_opd ! (load ! (finds_at ! (at' 5) (hop ! (look ! 22 refl) (stop !))) (look_raw ! 0 refl))) (to' 6)
+              (init ! 20 refl (S.typed 𝓛 (get_or cur (length ys) D) _ was)) $
+              rewrite ! 20 (λ (t : X). ‵ (fat full_share S.mir lc 0 (S.val t))) (get_or-append_seam ys e rest D) refl $
               move ! (8 ∷ []) $ use1 𝓛 (others ⊛ others) (twice 𝓛 κs.1 ks a') $ split ! $ move ! (1 ∷ []) $
               owned ! Q.row (Is Q.row) (Q.makes 𝓛) z.0 _ inv.1.1.1 $ fjoin ! $
               owned ! S.row (Is S.row) (S.makes 𝓛) e _
@@ -510,30 +549,32 @@ module _ {S Q A₁ A₂ : Data} (K : Data) (B : Two (uint w8) Q) (T : Three (uin
               fjoin ! $ move ! (7 ∷ 8 ∷ 9 ∷ 0 ∷ []) $
               calls-lent A₁.row A₂.row serving_one T.row tu tu₁ tu₂ 𝓛 κs.1 qs.1 z.1.0 z.1.1
               (e, (z.0, a')) ld lf fm turn-key turn-known
-              (λ _ _ _. and_then ! (opd-at ! (at 11) (look ! 25 refl)) (and_then ! (opd-at ! (at 12) (look ! 23 refl))
-              (and_then ! (opd-at ! (at 15) (look ! 17 refl)) (and_then ! (opd-at ! (at 3) (look ! 8 refl))
+              (λ _ _ _. and_then ! (opd-at ! (at' 2) (look ! 28 refl)) (and_then ! (opd-at ! (at' 3) (look ! 26 refl))
+              (and_then ! (opd-at ! (at' 6) (look ! 20 refl)) (and_then ! (opd-at ! (at 3) (look ! 8 refl))
               (opds_all ! 12 3 τs bs refl (machine-down κs ks a) ty (spots_fourth _ _ _ τs bs F (no_local 𝓤 H))))))) (λ v is.
               -- [d; f; the tokens; what the others own; the element; what it owns; the other elements; i; q; the open borrow; ..]
-              land ! (to 5) (init ! 37 refl (T.typed 𝓛 (out e z) _ is)) $
-              rewrite ! 37 (λ (u : Val). ‵ (fat full_share TyT lt' 0 u)) (ap only (T.tells (out e z) _ is)) refl $
+              land ! (to 5) (init ! 40 refl (T.typed 𝓛 (out e z) _ is)) $
+              rewrite ! 40 (λ (u : Val). ‵ (fat full_share TyT lt' 0 u)) (ap only (T.tells (out e z) _ is)) refl $
               -- is it refused?
               assigns !
-              (bin ! (load ! (finds_at ! (at 5) (fld ! refl (stop !))) (look_in ! 37 (sub ! 0 refl (whole !)))) (lit ! tt) tt)
-              (to 10) (store ! 27 refl (tt, tt)) $
+              (bin ! (load ! (finds_at ! (at 5) (fld ! refl (stop !))) (look_in ! 40 (sub ! 0 refl (whole !)))) (lit ! tt) tt)
+              (to' 1) (store ! 30 refl (tt, tt)) $
               cases (step e z).0
               -- it is served: the element and the small state are stored, and the next turn begins
               (λ served.
-              rewrite ! 27 (λ (t : Bool). ‵ (fat full_share ty_bool lb 0 (vbool t))) (is_zero (step e z).0 served) refl $
-              goes_on ! (load ! (to 10) (look ! 27 refl)) $
-              assigns ! (bin ! (load ! (to 4) (look ! 7 refl)) (lit ! little) scaled) (to 13) (store ! 21 refl (tt, scaled)) $
-              assigns ! (bin ! (load ! (from ! (fld ! refl (stop !))) (look_in ! 47 (sub ! 0 refl (whole !))))
-              (load ! (to 13) (look ! 21 refl)) tt) (to 16) (init ! 15 refl (tt, tt)) $
-              rewrite ! 15 (λ (t : ℕ). ‵ (fat full_share ty_ptr lv 0 (vptr b t)))
+              rewrite ! 30 (λ (t : Bool). ‵ (fat full_share ty_bool lb 0 (vbool t))) (is_zero (step e z).0 served) refl $
+              goes_on ! (load ! (to' 1) (look ! 30 refl)) $
+              assigns ! (of_opd ! (load ! (finds_at ! (at 5) (fld ! refl (stop !))) (look_in ! 40 (sub ! 1 refl (whole !)))))
+              (to' 7) (init ! 18 refl (S.typed 𝓛 (step e z).1.0 _ (T.parts (out e z) _ is).1.0)) $
+              assigns ! (bin ! (load ! (to 4) (look ! 7 refl)) (lit ! little) scaled) (to' 4) (store ! 24 refl (tt, scaled)) $
+              assigns ! (bin ! (load ! (from ! (fld ! refl (stop !))) (look_in ! 50 (sub ! 0 refl (whole !))))
+              (load ! (to' 4) (look ! 24 refl)) tt) (to' 8) (init ! 16 refl (tt, tt)) $
+              rewrite ! 16 (λ (t : ℕ). ‵ (fat full_share ty_ptr lv 0 (vptr b t)))
               (sym (place_is (mem S.row).size o (length ys))) refl $
-              assigns ! (of_opd ! (load ! (finds_at ! (at 5) (fld ! refl (stop !))) (look_in ! 37 (sub ! 1 refl (whole !)))))
-              (finds_at ! (at 16) (hop ! (look ! 15 refl) (stop !)))
+              assigns ! (of_opd ! (load ! (to' 7) (look ! 18 refl)))
+              (finds_at ! (at' 8) (hop ! (look ! 16 refl) (stop !)))
               (store_raw ! 4 refl (S.typed 𝓛 (step e z).1.0 _ (T.parts (out e z) _ is).1.0)) $
-              assigns ! (of_opd ! (load ! (finds_at ! (at 5) (fld ! refl (stop !))) (look_in ! 37 (sub ! 2 refl (whole !)))))
+              assigns ! (of_opd ! (load ! (finds_at ! (at 5) (fld ! refl (stop !))) (look_in ! 40 (sub ! 2 refl (whole !)))))
               (to 3) (store ! 8 refl (Q.typed 𝓛 (next e z).0 _ (T.parts (out e z) _ is).1.1)) $
               rewrite ! 4 (at_element (step e z).1.0) (sym S.is_mir) refl $ move ! (5 ∷ []) $ drop ! $
               owned ! S.row (Is S.row) (S.makes 𝓛) (step e z).1.0 _ (T.parts (out e z) _ is).1.0 $
@@ -544,25 +585,25 @@ module _ {S Q A₁ A₂ : Data} (K : Data) (B : Two (uint w8) Q) (T : Three (uin
               assigns_last ! (bin ! (load ! (to 4) (look ! 5 refl)) (lit ! tt) one_more) (to 4) (store ! 5 refl (tt, one_more)) $
               rewrite ! 5 (λ (j : ℕ). ‵ (fat full_share word li 0 (vint w64 j)))
               (sym (length-append ys ((step e z).1.0 ∷ []))) refl $
-              forget ! 35 refl $ forget ! 25 refl $ forget ! 23 refl $ forget ! 21 refl $ forget ! 19 refl $ forget ! 17 refl $
-              forget ! 15 refl $ forget ! 13 refl $ move ! (0 ∷ 5 ∷ 6 ∷ 1 ∷ 2 ∷ []) $
+              forget ! 38 refl $ forget ! 28 refl $ forget ! 26 refl $ forget ! 24 refl $ forget ! 22 refl $ forget ! 20 refl $
+              forget ! 18 refl $ forget ! 16 refl $ forget ! 14 refl $ move ! (0 ∷ 5 ∷ 6 ∷ 1 ∷ 2 ∷ []) $
               cut (Parts (ys ++ ((step e z).1.0 ∷ [])) rest (next e z)) (St (length rest) ∷ []) _
               (st_in (length rest) (ys ++ ((step e z).1.0 ∷ [])) rest (next e z)
               (onward served (T.parts (out e z) _ is).1.1)) $
               again ! ◌<◌ I t (length rest) less)
               -- it is refused: the element is as it was, and the function returns
               (λ j refused.
-              rewrite ! 27 (λ (t : Bool). ‵ (fat full_share ty_bool lb 0 (vbool t))) (is-more (step e z).0 j refused) refl $
-              goes_in ! (load ! (to 10) (look ! 27 refl)) $
+              rewrite ! 30 (λ (t : Bool). ‵ (fat full_share ty_bool lb 0 (vbool t))) (is-more (step e z).0 j refused) refl $
+              goes_in ! (load ! (to' 1) (look ! 30 refl)) $
               rewrite ! 4 (at_element (get_or cur (length ys) D)) (sym S.is_mir) refl $ move ! (4 ∷ 5 ∷ 6 ∷ []) $
               elem_back ! S.row full_share cur (length ys) D (tvals (get_or cur (length ys) D)) b o within $ move ! (1 ∷ []) $
               vacates A₁ 𝓛 _ ld $ move ! (2 ∷ []) $ vacates A₂ 𝓛 _ lf $
               hands (step e z).0 (length ys) z.0 (T.parts (out e z) _ is).0 (refl, lt_trans small room.0) inv.1.1.1
-              (λ _. and_then ! (load ! (finds_at ! (at 5) (fld ! refl (stop !))) (look_in ! 36 (sub ! 0 refl (whole !))))
+              (λ _. and_then ! (load ! (finds_at ! (at 5) (fld ! refl (stop !))) (look_in ! 39 (sub ! 0 refl (whole !))))
               (and_then ! (opd-at ! (at 4) (look ! 6 refl)) (and_then ! (opd-at ! (at 3) (look ! 7 refl)) (no_more !)))) (λ v is.
-              land ! (from ! (stop !)) (init ! 47 refl (O.typed 𝓛 (fin (step e z).0 (length ys) z.0) _ is)) $
-              forget ! 35 refl $ forget ! 25 refl $ forget ! 23 refl $ forget ! 21 refl $ forget ! 19 refl $ forget ! 17 refl $
-              forget ! 15 refl $ forget ! 5 refl $ forget ! 6 refl $ forget ! 27 refl $ move ! (2 ∷ 1 ∷ 0 ∷ 6 ∷ 5 ∷ []) $
+              land ! (from ! (stop !)) (init ! 50 refl (O.typed 𝓛 (fin (step e z).0 (length ys) z.0) _ is)) $
+              forget ! 38 refl $ forget ! 28 refl $ forget ! 26 refl $ forget ! 24 refl $ forget ! 22 refl $ forget ! 20 refl $
+              forget ! 18 refl $ forget ! 5 refl $ forget ! 6 refl $ forget ! 30 refl $ move ! (2 ∷ 1 ∷ 0 ∷ 6 ∷ 5 ∷ []) $
               ends v (fin (step e z).0 (length ys) z.0) cur (answered (step e z).0 (length ys) cur z (halted j refused))
               (left (step e z).0 (length ys) cur z (halted j refused)) (length-append ys (e ∷ rest) ∙ inv.1.0) is refl))))
             where
@@ -620,47 +661,55 @@ module _ {S Q A₁ A₂ : Data} (K : Data) (B : Two (uint w8) Q) (T : Three (uin
           body =
               assigns ! (i₁.evals 𝓛 _ _) (to 0) (init ! 1 refl (A₁.typed 𝓛 i₁.start _ i₁.is)) $
               assigns ! (i₂.evals 𝓛 _ _) (to 1) (init ! 2 refl (A₂.typed 𝓛 i₂.start _ i₂.is)) $
-              assigns ! (addr ! (to 0)) (to 6) (init ! 33 refl (tt, tt)) $
-              assigns ! (addr ! (to 1)) (to 7) (init ! 31 refl (tt, tt)) $
+              assigns ! (addr ! (to 0)) (to 6) (init ! 36 refl (tt, tt)) $
+              assigns ! (addr ! (to 1)) (to 7) (init ! 34 refl (tt, tt)) $
               move ! (2 ∷ []) $ use1 𝓛 (‵ ((mem A₂.row).own_at i₂.start lf 0)) (lies A₂ 𝓛 i₂.start lf 0 i₂.is) $
               move ! (2 ∷ []) $ use1 𝓛 (‵ ((mem A₁.row).own_at i₁.start ld 0)) (lies A₁ 𝓛 i₁.start ld 0 i₁.is) $
               move ! (6 ∷ []) $ use1 𝓛 (others ⊛ others) (twice 𝓛 κs.1 ks a') $ split ! $ move ! (1 ∷ []) $
               owned ! K.row (Is K.row) (K.makes 𝓛) k _ is-k $ fjoin ! $ move ! (2 ∷ 3 ∷ 7 ∷ 0 ∷ []) $
               calls-lent A₁.row A₂.row opening B.row op op₁ op₂ 𝓛 κs.1 qs.1 i₁.start i₂.start
               (k, a') ld lf fm open-key open-known
-              (λ _ _ _. and_then ! (opd-at ! (at 6) (look ! 33 refl)) (and_then ! (opd-at ! (at 7) (look ! 31 refl))
-              (and_then ! (load ! (from ! (stop !)) (look ! 43 refl))
+              (λ _ _ _. and_then ! (opd-at ! (at 6) (look ! 36 refl)) (and_then ! (opd-at ! (at 7) (look ! 34 refl))
+              (and_then ! (load ! (from ! (stop !)) (look ! 46 refl))
               (opds_all ! 10 3 τs bs refl (machine-down κs ks a) ty (spots_fourth _ _ _ τs bs F (no_local 𝓤 H)))))) (λ v is.
               -- [d; f; the tokens; what the others own; the elements; room for q; room for i; the open borrow; ..]
-              land ! (to 2) (init ! 39 refl (B.typed 𝓛 opened _ is)) $
-              rewrite ! 39 (λ (u : Val). ‵ (fat full_share TyB lg 0 u)) (ap only (B.tells opened _ is)) refl $
+              land ! (to 2) (init ! 42 refl (B.typed 𝓛 opened _ is)) $
+              rewrite ! 42 (λ (u : Val). ‵ (fat full_share TyB lg 0 u)) (ap only (B.tells opened _ is)) refl $
               assigns !
-              (bin ! (load ! (finds_at ! (at 2) (fld ! refl (stop !))) (look_in ! 39 (sub ! 0 refl (whole !)))) (lit ! tt) tt)
-              (to 8) (init ! 29 refl (tt, tt)) $
+              (bin ! (load ! (finds_at ! (at 2) (fld ! refl (stop !))) (look_in ! 42 (sub ! 0 refl (whole !)))) (lit ! tt) tt)
+              (to 8) (init ! 32 refl (tt, tt)) $
               cases (B.fst opened)
               -- it is opened: the loop runs from the state that opening gave
-              (λ fine. rewrite ! 29 (λ (t : Bool). ‵ (fat full_share ty_bool lh 0 (vbool t))) (is_zero (B.fst opened) fine) refl $
-              goes_on ! (load ! (to 8) (look ! 29 refl)) $
-              assigns ! (of_opd ! (load ! (finds_at ! (at 2) (fld ! refl (stop !))) (look_in ! 39 (sub ! 1 refl (whole !)))))
+              (λ fine. rewrite ! 32 (λ (t : Bool). ‵ (fat full_share ty_bool lh 0 (vbool t))) (is_zero (B.fst opened) fine) refl $
+              goes_on ! (load ! (to 8) (look ! 32 refl)) $
+              assigns ! (of_opd ! (load ! (finds_at ! (at 2) (fld ! refl (stop !))) (look_in ! 42 (sub ! 1 refl (whole !)))))
               (to 3) (init ! 5 refl (Q.typed 𝓛 (B.snd opened) _ (B.parts opened _ is).1)) $
               assigns ! (of_opd ! (lit ! tt)) (to 4) (init ! 6 refl (tt, record { fits = lit< tt })) $
-              assigns ! (of_opd ! (load ! (from ! (fld ! refl (stop !))) (look_in ! 45 (sub ! 1 refl (whole !))))) (to 9)
-              (init ! 27 refl (tt, record { fits = room.0 })) $
-              forget ! 39 refl $ forget ! 33 refl $ forget ! 31 refl $ forget ! 29 refl $ move ! (4 ∷ 6 ∷ 5 ∷ 0 ∷ 1 ∷ []) $
+              assigns ! (of_opd ! (load ! (from ! (fld ! refl (stop !))) (look_in ! 48 (sub ! 1 refl (whole !))))) (to' 0)
+              (init ! 30 refl (tt, record { fits = room.0 })) $
+              forget ! 42 refl $ forget ! 36 refl $ forget ! 34 refl $ forget ! 32 refl $ move ! (4 ∷ 6 ∷ 5 ∷ 0 ∷ 1 ∷ []) $
               cut (Parts [] xs z₁) (St m ∷ []) _
               (st_in m [] xs z₁ (refl, (zero-add m, (begun step first_state xs fine, (B.parts opened _ is).1)))) $
               first ! $ blocks ! $ loops ! 𝓣 ◌<◌ lt-wf_rel.wf I turns m)
               -- opening is refused: nothing is served
               (λ j refused.
-              rewrite ! 29 (λ (t : Bool). ‵ (fat full_share ty_bool lh 0 (vbool t))) (is-more (B.fst opened) j refused) refl $
-              goes_in ! (load ! (to 8) (look ! 29 refl)) $
-              vacates A₁ 𝓛 _ ld $ move ! (1 ∷ []) $ vacates A₂ 𝓛 _ lf $
+              rewrite ! 32 (λ (t : Bool). ‵ (fat full_share ty_bool lh 0 (vbool t))) (is-more (B.fst opened) j refused) refl $
+              goes_in ! (load ! (to 8) (look ! 32 refl)) $
+              move ! (11 ∷ []) $ sets_aside ! apart Q.mir bx (Q.val (B.snd opened)) (# 9) (place (# 2) (field 1 ∷ []))
+              (Q.typed 𝓛 (B.snd opened) _ (B.parts opened _ is).1) spots
+              (λ _ _ _. load ! (finds_at ! (at 2) (fld ! refl (stop !))) (look_in ! 44 (sub ! 1 refl (whole !)))) $
+              move ! (1 ∷ []) $ vacates A₁ 𝓛 _ ld $ move ! (2 ∷ []) $ vacates A₂ 𝓛 _ lf $
+              -- [f; d; the state of opened; the tokens; what the others own; the elements; room for q; room for i; the open borrow; ..]
               hands (B.fst opened) 0 (B.snd opened) (B.parts opened _ is).0 (refl, lit< tt) (B.parts opened _ is).1
-              (λ _. and_then ! (load ! (finds_at ! (at 2) (fld ! refl (stop !))) (look_in ! 40 (sub ! 0 refl (whole !))))
+              (λ _. and_then ! (load ! (finds_at ! (at 2) (fld ! refl (stop !))) (look_in ! 43 (sub ! 0 refl (whole !))))
               (and_then ! (lit ! tt)
-              (and_then ! (load ! (finds_at ! (at 2) (fld ! refl (stop !))) (look_in ! 40 (sub ! 1 refl (whole !)))) (no_more !))))
-              (λ v is. land ! (from ! (stop !)) (init ! 47 refl (O.typed 𝓛 (fin (B.fst opened) 0 (B.snd opened)) _ is)) $
-              forget ! 39 refl $ forget ! 33 refl $ forget ! 31 refl $ forget ! 29 refl $ move ! (4 ∷ 1 ∷ 0 ∷ 5 ∷ 6 ∷ []) $
+              (reads_aside ! apart 3 (# 9) Q.mir bx (Q.val (B.snd opened)) (place (# 2) (field 1 ∷ [])) refl
+              (Q.typed 𝓛 (B.snd opened) _ (B.parts opened _ is).1) spots
+              (and_then ! (load ! (finds_at ! (at 2) (fld ! refl (stop !))) (look_in ! 43 (sub ! 1 refl (whole !)))) (no_more !)))))
+              (λ v is. land ! (from ! (stop !)) (init ! 50 refl (O.typed 𝓛 (fin (B.fst opened) 0 (B.snd opened)) _ is)) $
+              forget ! 42 refl $ forget ! 36 refl $ forget ! 34 refl $ forget ! 32 refl $ move ! (2 ∷ []) $
+              forget-all ! spare bx (moved apart (Q.val (B.snd opened))) $
+              move ! (5 ∷ 2 ∷ 1 ∷ 6 ∷ 7 ∷ 3 ∷ 4 ∷ 8 ∷ 9 ∷ 10 ∷ 11 ∷ 0 ∷ []) $
               ends v (fin (B.fst opened) 0 (B.snd opened)) xs
               (answered (B.fst opened) 0 xs z₁ (unopened step first_state xs j refused))
               (left (B.fst opened) 0 xs z₁ (unopened step first_state xs j refused)) refl is refl)))
@@ -676,16 +725,18 @@ module _ {S Q A₁ A₂ : Data} (K : Data) (B : Two (uint w8) Q) (T : Three (uin
             enter ! 𝓣.C 𝓣.Λ (turns_fn open-key turn-key done-key) (sv ∷ K.val k ∷ vs) _ $
             alloc1 ! (λ l₀. alloc1 ! (λ l₁. alloc1 ! (λ l₂. alloc_all ! τs (λ bs.
             alloc1 ! (λ ld. alloc1 ! (λ lf. alloc1 ! (λ lg. alloc1 ! (λ lq. alloc1 ! (λ li. alloc1 ! (λ lt'. alloc1 ! (λ lx.
-            alloc1 ! (λ ly. alloc1 ! (λ lh. alloc1 ! (λ ln. alloc1 ! (λ lb. alloc1 ! (λ lx'. alloc1 ! (λ ly'. alloc1 ! (λ lw.
-            alloc1 ! (λ lp. alloc1 ! (λ lc. alloc1 ! (λ lv. alloc1 ! (λ ll. alloc0 ! $
-            params1 ! $ pass1 ! (init ! 39 refl (tt, (tt, (record { fits = room.0 }, tt)))) $
-            pass1 ! (init ! 37 refl (K.typed 𝓛 k _ is-k)) $
-            move ! (36 ∷ []) $ pass_all ! τs bs vs (F l₀ l₁ l₂ bs ld lf lg lq li lt' lx ly lh ln lb lx' ly' lw lp lc lv ll) ty $
-            move ! (43 ∷ 44 ∷ 45 ∷ []) $ opens_slice ! tt S.row xs b o $ move ! (0 ∷ 39 ∷ 37 ∷ 33 ∷ 31 ∷ 47 ∷ 48 ∷ []) $
-            body l₀ l₁ l₂ bs ld lf lg lq li lt' lx ly lh ln lb lx' ly' lw lp lc lv ll))))))))))))))))))))))
+            alloc1 ! (λ ly. alloc1 ! (λ lh. alloc_all ! spare (λ bx. alloc1 ! (λ ln. alloc1 ! (λ lb. alloc1 ! (λ lx'. alloc1 ! (λ ly'. alloc1 ! (λ lw.
+            alloc1 ! (λ lp. alloc1 ! (λ lc. alloc1 ! (λ le. alloc1 ! (λ lv. alloc1 ! (λ ll. alloc0 ! $
+            params1 ! $ pass1 ! (init ! 42 refl (tt, (tt, (record { fits = room.0 }, tt)))) $
+            pass1 ! (init ! 40 refl (K.typed 𝓛 k _ is-k)) $
+            move ! (39 ∷ []) $
+            pass_all ! τs bs vs (F l₀ l₁ l₂ bs ld lf lg lq li lt' lx ly lh bx ln lb lx' ly' lw lp lc le lv ll) ty $
+            move ! (46 ∷ 47 ∷ 48 ∷ []) $ opens_slice ! tt S.row xs b o $
+            move ! (0 ∷ 42 ∷ 40 ∷ 36 ∷ 34 ∷ 50 ∷ 51 ∷ 1 ∷ 2 ∷ 3 ∷ 4 ∷ 25 ∷ []) $
+            body l₀ l₁ l₂ bs ld lf lg lq li lt' lx ly lh bx ln lb lx' ly' lw lp lc le lv ll))))))))))))))))))))))))
 
     meets :
-        {M : Type 1} {𝓤 : Ura M} (𝓛 : Logic 𝓤) (𝓣 : Tables 𝓤 𝓛.H) (open-key turn-key done-key : Name) →
+        {M : Type 1} {𝓤 : Ura M} (𝓛 : Logic 𝓤) (𝓣 : Tables 𝓤 𝓛.H) (open-key turn-key done-key : Callee) →
         Triple 𝓤 (𝓣.C open-key) (Open 𝓛) → Triple 𝓤 (𝓣.C turn-key) (One 𝓛) → Triple 𝓤 (𝓣.C done-key) (Done 𝓛) →
         Triple 𝓤 (WpFn 𝓤 𝓛.H 𝓣.C 𝓣.Λ (turns_fn open-key turn-key done-key)) (All 𝓛)
     meets 𝓛 𝓣 open-key turn-key done-key open-known turn-known done-known =
@@ -696,7 +747,7 @@ module _ {S Q A₁ A₂ : Data} (K : Data) (B : Two (uint w8) Q) (T : Three (uin
     -- env has all at the name j, and the routines r, s and u of open, g and done at the names by which they are called
     pub all-turns :
         {M : Type 1} {𝓤 : Ura M} (𝓛 : Logic 𝓤) (𝓜 : Model 𝓤 𝓛.H) (𝓡 : Running 𝓤 𝓛.H 𝓜) (env : Routines)
-        (j open-key turn-key done-key : Name) (r s u : Routine) → env open-key ≡ r → env turn-key ≡ s → env done-key ≡ u →
+        (j open-key turn-key done-key : Callee) (r s u : Routine) → env open-key ≡ r → env turn-key ≡ s → env done-key ≡ u →
         Closed 𝓤 𝓛.H (tables 𝓤 𝓛.H 𝓜 𝓡 env).C (tables 𝓤 𝓛.H 𝓜 𝓡 env).Λ j (turns_fn open-key turn-key done-key) →
         Triple 𝓤 (𝓡.run r) (Open 𝓛) → Triple 𝓤 (𝓡.run s) (One 𝓛) → Triple 𝓤 (𝓡.run u) (Done 𝓛) →
         Triple 𝓤 (𝓡.run (env j)) (All 𝓛)
