@@ -2,9 +2,9 @@
 
 #![tactic(auto)]
 
+mod arrays;
 mod block;
 mod bounds;
-mod arrays;
 mod document;
 mod image;
 mod list;

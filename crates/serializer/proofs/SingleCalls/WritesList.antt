@@ -59,7 +59,7 @@ accepted-all option least [] fs t = refl
 accepted-all option least (d ∷ ds) [] t = absurd (refused≢ok t)
 accepted-all option least (d ∷ ds) (f ∷ fs) t =
     let p = and_then-ok (take_doc option least d f) (λ next. take_docs option next ds fs) t in
-    rw (p.1, accepted-all option _ ds fs p.2, one-add)
+    rw (p.1, accepted-all option p.0 ds fs p.2, one-add)
 
 one-more-le : {n : ℕ} (count : ℕ → ℕ) → ((next : ℕ) → count next ≤ n) → (o : Outcome ℕ) → or_before (λ next. 1 + count next) o 0 ≤ suc n
 unfolding or_before

@@ -45,5 +45,5 @@ taken-rises option least (d ∷ ds) [] t = absurd (refused≢ok t)
 taken-rises option least (d ∷ ds) (f ∷ fs) t =
     let p = and_then-ok _ _ t in
     let first = take_doc-ok option least d f p.1 in
-    let rest = taken-rises option _ ds fs p.2 in
+    let rest = taken-rises option p.0 ds fs p.2 in
     (and-eq-true_iff _ _).1 ((and-eq-true_iff _ _).1 (first.above, first.below), rw first.next_is at rest)
