@@ -11,6 +11,7 @@ use crate::reading::{ask, call_all, list_all, walk, walk_arrays, walk_lent};
 use crate::telling::tell;
 use crate::writing::{write_each, write_on_arrays, write_whole};
 use postings::Term;
+use std::io;
 
 // The first n bytes. That a part lies within its slice is a fact that takes a line of proof (proofs/front).
 fn front(output: &[u8], n: usize) -> &[u8] {
@@ -21,27 +22,27 @@ fn front(output: &[u8], n: usize) -> &[u8] {
 }
 
 // The image is at the front of the output.
-fn read_each(output: &[u8], n: usize) {
+fn read_each(rt: &impl Print, output: &[u8], n: usize) -> io::Result<()> {
     let image = front(output, n);
     let term = Term {
         mode: 1,
         requested: 1,
         count: 3,
     };
-    walk(image, term);
-    walk_lent(image, term);
-    walk_arrays(image, term);
-    ask(image);
-    list_all(image, term);
-    call_all(image, term);
+    walk(rt, image, term)?;
+    walk_lent(rt, image, term)?;
+    walk_arrays(rt, image, term)?;
+    ask(rt, image)?;
+    list_all(rt, image, term)?;
+    call_all(rt, image, term)
 }
 
-fn main() {
+fn main(rt: HostRuntime) -> io::Result<()> {
     // Room for any list of three documents: 10 bytes each.
     let mut output = [0u8; 30];
-    write_each(&mut output);
-    write_on_arrays(&mut output);
-    let n = write_whole(&mut output);
-    tell(b"bytes", n as u64);
-    read_each(&output, n);
+    write_each(&rt, &mut output)?;
+    write_on_arrays(&rt, &mut output)?;
+    let n = write_whole(&rt, &mut output)?;
+    tell(&rt, "bytes", n as u64)?;
+    read_each(&rt, &output, n)
 }

@@ -6,80 +6,88 @@ use postings::{
     answer_at, doc, open, open_in, posting_bytes, rank, read, run_calls, seek, seek_by_lending,
     seek_in, skip_bytes, term_freq, total, validate,
 };
+use std::io;
 
 // A cursor by value: the first document, the next, the first at or above 300, and what stands there.
-pub(crate) fn walk(image: &[u8], term: Term) {
+pub(crate) fn walk(rt: &impl Print, image: &[u8], term: Term) -> io::Result<()> {
     let opened = open(image, term);
     let answer = opened.answer;
-    tell_answer(answer);
+    tell_answer(rt, answer)?;
     let moved = advance(opened.cursor, image, term);
     let answer = moved.answer;
-    tell_answer(answer);
+    tell_answer(rt, answer)?;
     let moved = seek(moved.cursor, image, term, 300);
     let answer = moved.answer;
-    tell_answer(answer);
+    tell_answer(rt, answer)?;
     let found = doc(moved.cursor, image, term);
-    tell_value(b"doc", found);
+    tell_value(rt, "doc", found)?;
     let found = term_freq(moved.cursor, image, term);
-    tell_value(b"term_freq", found);
+    tell_value(rt, "term_freq", found)
 }
 
 // The same calls made on a lent cursor: these take it by value, lend it and hand it back.
-pub(crate) fn walk_lent(image: &[u8], term: Term) {
+pub(crate) fn walk_lent(rt: &impl Print, image: &[u8], term: Term) -> io::Result<()> {
     let opened = open(image, term);
     let moved = advance_by_lending(opened.cursor, image, term);
     let answer = moved.answer;
-    tell_answer(answer);
+    tell_answer(rt, answer)?;
     let moved = seek_by_lending(moved.cursor, image, term, 300);
     let answer = moved.answer;
-    tell_answer(answer);
+    tell_answer(rt, answer)
 }
 
 // Steps and seeks on the caller's own two arrays, from the first document on.
-fn walk_on(first: Held, image: &[u8], term: Term, docs: &mut [u32; 128], freqs: &mut [u32; 128]) {
+fn walk_on(
+    rt: &impl Print,
+    first: Held,
+    image: &[u8],
+    term: Term,
+    docs: &mut [u32; 128],
+    freqs: &mut [u32; 128],
+) -> io::Result<()> {
     let Reached::At(held) = advance_in(first, image, term, docs, freqs) else {
-        return;
+        return Ok(());
     };
-    tell_answer(answer_at(held, term, docs, freqs));
+    tell_answer(rt, answer_at(held, term, docs, freqs))?;
     match seek_in(held, image, term, 300, docs, freqs) {
-        Reached::At(held) => tell_answer(answer_at(held, term, docs, freqs)),
-        Reached::Refused(why) => tell(b"refused", why as u64),
+        Reached::At(held) => tell_answer(rt, answer_at(held, term, docs, freqs)),
+        Reached::Refused(why) => tell(rt, "refused", why as u64),
     }
 }
 
 // No cursor is copied where the caller holds its arrays, and its numbers beside them.
-pub(crate) fn walk_arrays(image: &[u8], term: Term) {
+pub(crate) fn walk_arrays(rt: &impl Print, image: &[u8], term: Term) -> io::Result<()> {
     let mut docs = [TERMINATED; 128];
     let mut freqs = [1; 128];
     match open_in(image, term, &mut docs, &mut freqs) {
-        Reached::At(held) => walk_on(held, image, term, &mut docs, &mut freqs),
-        Reached::Refused(why) => tell(b"refused", why as u64),
+        Reached::At(held) => walk_on(rt, held, image, term, &mut docs, &mut freqs),
+        Reached::Refused(why) => tell(rt, "refused", why as u64),
     }
 }
 
 // Documents and occurrences below 300; whether the image is sound, 0 where it is; and its parts.
-pub(crate) fn ask(image: &[u8]) {
-    tell_value(b"rank", rank(image, 1, 3, 300));
-    tell_value(b"total", total(image, 1, 3, 300));
-    tell(b"validate", validate(image, 1, 3) as u64);
+pub(crate) fn ask(rt: &impl Print, image: &[u8]) -> io::Result<()> {
+    tell_value(rt, "rank", rank(image, 1, 3, 300))?;
+    tell_value(rt, "total", total(image, 1, 3, 300))?;
+    tell(rt, "validate", validate(image, 1, 3) as u64)?;
     let skips = skip_bytes(image, 3);
-    tell(b"skip_bytes", skips.len() as u64);
+    tell(rt, "skip_bytes", skips.len() as u64)?;
     let blocks = posting_bytes(image, 3);
-    tell(b"posting_bytes", blocks.len() as u64);
+    tell(rt, "posting_bytes", blocks.len() as u64)
 }
 
 // The whole list into two slices of at least `count` places.
-pub(crate) fn list_all(image: &[u8], term: Term) {
+pub(crate) fn list_all(rt: &impl Print, image: &[u8], term: Term) -> io::Result<()> {
     let mut docs = [0u32; 3];
     let mut freqs = [0u32; 3];
     let read = read(image, term, &mut docs, &mut freqs);
-    tell_value(b"read", read);
+    tell_value(rt, "read", read)
 }
 
 // A list of calls in one, coded as numbers: a seek to 300 and a step. Opening and both are answered.
-pub(crate) fn call_all(image: &[u8], term: Term) {
+pub(crate) fn call_all(rt: &impl Print, image: &[u8], term: Term) -> io::Result<()> {
     let calls = [4294967296 + 300, 0];
     let mut answers = [0u64; 3 * ANSWER_NUMBERS];
     let n = run_calls(image, term, &calls, &mut answers);
-    tell(b"run_calls", n as u64);
+    tell(rt, "run_calls", n as u64)
 }

@@ -1,18 +1,15 @@
 // What is printed of an answer.
 
-use libc::STDOUT_FILENO;
 use postings::{Answer, Value};
+use std::io;
 
 // A word and a number on a line.
-pub(crate) fn tell(word: &[u8], number: u64) {
-    io::write_all(STDOUT_FILENO, word);
-    io::write_all(STDOUT_FILENO, b" ");
-    io::print_decimal(STDOUT_FILENO, number);
-    io::write_all(STDOUT_FILENO, b"\n");
+pub(crate) fn tell(rt: &impl Print, word: &str, number: u64) -> io::Result<()> {
+    println!(rt; "{word} {number}")
 }
 
 // What a call on a cursor answers.
-pub(crate) fn tell_answer(answer: Answer) {
+pub(crate) fn tell_answer(rt: &impl Print, answer: Answer) -> io::Result<()> {
     match answer {
         Answer::At {
             doc,
@@ -20,19 +17,19 @@ pub(crate) fn tell_answer(answer: Answer) {
             unpacked,
             entries,
         } => {
-            tell(b"document", doc as u64);
-            tell(b"frequency", freq as u64);
-            tell(b"unpacked", unpacked as u64);
-            tell(b"entries", entries as u64);
+            tell(rt, "document", doc as u64)?;
+            tell(rt, "frequency", freq as u64)?;
+            tell(rt, "unpacked", unpacked as u64)?;
+            tell(rt, "entries", entries as u64)
         }
-        Answer::Refused(why) => tell(b"refused", why as u64),
+        Answer::Refused(why) => tell(rt, "refused", why as u64),
     }
 }
 
 // A number that was asked for.
-pub(crate) fn tell_value(word: &[u8], value: Value) {
+pub(crate) fn tell_value(rt: &impl Print, word: &str, value: Value) -> io::Result<()> {
     match value {
-        Value::Is(n) => tell(word, n),
-        Value::Refused(why) => tell(b"refused", why as u64),
+        Value::Is(n) => tell(rt, word, n),
+        Value::Refused(why) => tell(rt, "refused", why as u64),
     }
 }

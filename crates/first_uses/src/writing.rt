@@ -5,62 +5,64 @@ use postings::{
     Accepted, Progress, Progressed, Written, ask_list, close_term, close_term_in, new_term,
     new_term_in, write_doc, write_doc_in, write_list,
 };
+use std::io;
 
 // A whole list, mode 1, frequencies recorded: whether it would be accepted under an announced count of 3, and the image's length. A
 // refusal changes nothing.
-pub(crate) fn write_whole(output: &mut [u8]) -> usize {
+pub(crate) fn write_whole(rt: &impl Print, output: &mut [u8]) -> io::Result<usize> {
     let ids = [3, 7, 300];
     let freqs = [1, 2, 130];
     let mut skips = [0u8; 8];
     let mut postings = [0u8; 1008];
     let accepted = ask_list(1, true, &ids, &freqs, 3, &skips, &postings, output);
-    tell_accepted(accepted);
+    tell_accepted(rt, accepted)?;
     match write_list(1, true, &ids, &freqs, &mut skips, &mut postings, output) {
-        Written::Bytes(n) => n,
+        Written::Bytes(n) => Ok(n),
         Written::Refused(why) => {
-            tell(b"refused", why as u64);
-            0
+            tell(rt, "refused", why as u64)?;
+            Ok(0)
         }
     }
 }
 
 // Whether a call took what it was handed, or would.
-fn tell_accepted(accepted: Accepted) {
+fn tell_accepted(rt: &impl Print, accepted: Accepted) -> io::Result<()> {
     match accepted {
-        Accepted::Yes => tell(b"taken", 1),
-        Accepted::Refused(why) => tell(b"refused", why as u64),
+        Accepted::Yes => tell(rt, "taken", 1),
+        Accepted::Refused(why) => tell(rt, "refused", why as u64),
     }
 }
 
 // The same document by document: a state goes from call to call. A document that is refused, here the second 3, isn't taken, and
 // the next call goes on from the state that came back.
-pub(crate) fn write_each(output: &mut [u8]) {
+pub(crate) fn write_each(rt: &impl Print, output: &mut [u8]) -> io::Result<()> {
     let mut skips = [0u8; 8];
     let mut postings = [0u8; 1008];
     let begun = new_term(1, true);
     let step = write_doc(begun.state, 3, 1, &mut skips, &mut postings);
     let accepted = step.answer;
-    tell_accepted(accepted);
+    tell_accepted(rt, accepted)?;
     let step = write_doc(step.state, 3, 1, &mut skips, &mut postings);
     let accepted = step.answer;
-    tell_accepted(accepted);
+    tell_accepted(rt, accepted)?;
     let step = write_doc(step.state, 7, 2, &mut skips, &mut postings);
     let step = write_doc(step.state, 300, 130, &mut skips, &mut postings);
     let closed = close_term(step.state, 3, &skips, &postings, output);
     let answer = closed.answer;
-    tell_written(answer);
+    tell_written(rt, answer)
 }
 
 // An image's length, or the refusal's number.
-fn tell_written(answer: Written) {
+fn tell_written(rt: &impl Print, answer: Written) -> io::Result<()> {
     match answer {
-        Written::Bytes(n) => tell(b"bytes", n as u64),
-        Written::Refused(why) => tell(b"refused", why as u64),
+        Written::Bytes(n) => tell(rt, "bytes", n as u64),
+        Written::Refused(why) => tell(rt, "refused", why as u64),
     }
 }
 
 // Hands a document in that waits in two arrays of the caller's own: the numbers behind it, or the same where it is refused.
 fn write_one(
+    rt: &impl Print,
     progress: Progress,
     doc: u32,
     freq: u32,
@@ -68,29 +70,30 @@ fn write_one(
     freqs: &mut [u32; 128],
     skips: &mut [u8],
     postings: &mut [u8],
-) -> Progress {
+) -> io::Result<Progress> {
     match write_doc_in(progress, doc, freq, docs, freqs, skips, postings) {
         Progressed::At(next) => {
-            tell(b"taken", 1);
-            next
+            tell(rt, "taken", 1)?;
+            Ok(next)
         }
         Progressed::Refused(why) => {
-            tell(b"refused", why as u64);
-            progress
+            tell(rt, "refused", why as u64)?;
+            Ok(progress)
         }
     }
 }
 
 // The same with two arrays of the caller's own, in which documents wait, and the state's numbers beside them: no call copies a state.
-pub(crate) fn write_on_arrays(output: &mut [u8]) {
+pub(crate) fn write_on_arrays(rt: &impl Print, output: &mut [u8]) -> io::Result<()> {
     let mut docs = [0u32; 128];
     let mut freqs = [0u32; 128];
     let mut skips = [0u8; 8];
     let mut postings = [0u8; 1008];
     let Progressed::At(begun) = new_term_in(1, true) else {
-        return;
+        return Ok(());
     };
     let first = write_one(
+        rt,
         begun,
         3,
         1,
@@ -98,8 +101,9 @@ pub(crate) fn write_on_arrays(output: &mut [u8]) {
         &mut freqs,
         &mut skips,
         &mut postings,
-    );
+    )?;
     let second = write_one(
+        rt,
         first,
         7,
         2,
@@ -107,8 +111,9 @@ pub(crate) fn write_on_arrays(output: &mut [u8]) {
         &mut freqs,
         &mut skips,
         &mut postings,
-    );
+    )?;
     let third = write_one(
+        rt,
         second,
         300,
         130,
@@ -116,8 +121,8 @@ pub(crate) fn write_on_arrays(output: &mut [u8]) {
         &mut freqs,
         &mut skips,
         &mut postings,
-    );
+    )?;
     let closed = close_term_in(third, 3, &docs, &freqs, &skips, &postings, output);
     let answer = closed.answer;
-    tell_written(answer);
+    tell_written(rt, answer)
 }

@@ -4,13 +4,16 @@
 
 #![tactic(auto)]
 
+mod input;
 mod list;
 mod table;
 mod text;
 
 ghost use Rattle.std.specs.Prelude.{◌≡◌, length};
 
+use input::read_full;
 use list::list_table;
+use std::io;
 
 // Room for the longest input that is taken, and one byte more, which shows that an input is longer.
 fn input_buffer() -> [u8; 65537]
@@ -25,11 +28,11 @@ fn output_buffer() -> [u8; 1048576] {
     [0; 1048576]
 }
 
-// A read that fails counts as the end of the input.
-fn main() {
+// A read that fails counts as the end of the input; a write that fails ends the program with its error.
+fn main(rt: HostRuntime) -> io::Result<()> {
     let mut input = input_buffer();
-    let size = io::read_full(libc::STDIN_FILENO, &mut input);
+    let size = read_full(&mut rt.stdin(), &mut input);
     let mut output = output_buffer();
     let end = list_table(&input[..size], &mut output);
-    io::write_all(libc::STDOUT_FILENO, &output[..end]);
+    rt.write_all(&output[..end])
 }

@@ -9,15 +9,17 @@
 
 #![tactic(auto)]
 
+mod input;
 mod replay;
 mod sample;
 
-ghost use Rattle.std.specs.Prelude.{◌≡◌};
+ghost use Rattle.std.specs.Prelude.{◌≡◌, length};
 ghost use Rattle.vectors.specs.Replay.{replayed};
 
+use crate::input::read_full;
 use crate::replay::replay_case;
 use crate::sample::{Parsed, case_at, short_at};
-use libc::{STDIN_FILENO, STDOUT_FILENO};
+use std::io;
 
 // How many cases were replayed and how many of them differ; or that the input is no sample.
 #[derive(Clone, Copy)]
@@ -26,15 +28,14 @@ pub enum Replayed {
     Malformed,
 }
 
-// Names a case that differs by its place, from 0.
-fn tell_case(place: usize) {
-    io::write_all(STDOUT_FILENO, b"case ");
-    io::print_decimal(STDOUT_FILENO, place as u64);
-    io::write_all(STDOUT_FILENO, b" differs\n");
+// Names a case that differs by its place, from 0. Where it can't be written the replay goes on: the line behind the last case has its
+// number, and is written or ends the program with an error.
+fn tell_case(rt: &impl Print, place: usize) {
+    let _ = println!(rt; "case {place} differs");
 }
 
 // Replays all cases, and tells those that differ.
-fn replay_all(input: &[u8]) -> Replayed
+fn replay_all(rt: &impl Print, input: &[u8]) -> Replayed
     ensures { result ≡ replayed input.now }
 {
     if input.len() < 2 {
@@ -48,7 +49,7 @@ fn replay_all(input: &[u8]) -> Replayed
             return Replayed::Malformed;
         };
         if !replay_case(input, case) {
-            tell_case(i);
+            tell_case(rt, i);
             differ += 1;
         }
         at = case.end;
@@ -60,27 +61,28 @@ fn replay_all(input: &[u8]) -> Replayed
 }
 
 // Tells what came of it, in one line.
-fn tell(replayed: Replayed) {
+fn tell(rt: &impl Print, replayed: Replayed) -> io::Result<()> {
     match replayed {
         Replayed::All { cases, differ } => {
-            io::print_decimal(STDOUT_FILENO, cases as u64);
-            io::write_all(STDOUT_FILENO, b" images replayed, ");
-            io::print_decimal(STDOUT_FILENO, differ as u64);
-            io::write_all(STDOUT_FILENO, b" differ\n");
+            println!(rt; "{cases} images replayed, {differ} differ")
         }
-        Replayed::Malformed => {
-            io::write_all(STDOUT_FILENO, b"malformed\n");
-        }
+        Replayed::Malformed => println!(rt; "malformed"),
     }
 }
 
-// An input that fills the buffer may go on behind it, and is no sample.
-fn main() {
-    let mut input = io::large_buffer();
-    let n = io::read_full(STDIN_FILENO, &mut input);
+// Room for the longest sample, and one byte more, which shows that an input is longer.
+fn input_buffer() -> [u8; 65536]
+    ensures { length result ≡ 65536 }
+{
+    [0; 65536]
+}
+
+// An input that fills the buffer may go on behind it, and is no sample. A read that fails counts as the end of the input.
+fn main(rt: HostRuntime) -> io::Result<()> {
+    let mut input = input_buffer();
+    let n = read_full(&mut rt.stdin(), &mut input);
     if n == 65536 {
-        tell(Replayed::Malformed);
-        return;
+        return tell(&rt, Replayed::Malformed);
     }
-    tell(replay_all(&input[..n]));
+    tell(&rt, replay_all(&rt, &input[..n]))
 }
