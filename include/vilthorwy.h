@@ -1,4 +1,4 @@
-/* The functions of libexports.a (`rt staticlib exports`), for C and whatever links as C does, on x86-64 Linux. Each is proved to give
+/* The functions of libexports.a (`rt lib` in crates/exports), for C and whatever links as C does, on x86-64 Linux. Each is proved to give
  * the outcome that docs/PROMISES.md names, on all numbers and on all contents of what is lent.
  *
  * A slice is a pointer and a length in elements. The proofs presume of it what Rust and Rattle see to by themselves: the pointer is

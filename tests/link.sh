@@ -1,6 +1,6 @@
 #!/usr/bin/env bash
 # Runs what README.md shows: the listing of examples/table.txt, and the examples in C and in Rust, linked with the static library. Compares
-# what they print. Wants `rt staticlib exports` to have been run.
+# what they print. Wants `rt lib` to have been run in crates/exports.
 set -euo pipefail
 cd "$(dirname "$0")/.."
 folder=$(mktemp -d)
@@ -23,8 +23,8 @@ for shown in "cat examples/table.txt" examples/run; do
         exit 1
     }
 done
-cc -Iinclude examples/first.c target/staticlib/libexports.a -o "$folder/first-c"
+cc -Iinclude examples/first.c crates/exports/out/libexports.a -o "$folder/first-c"
 "$folder/first-c" | diff "$folder/expected" -
-rustc --edition 2024 -O -L target/staticlib examples/first.rs -o "$folder/first-rust"
+rustc --edition 2024 -O -L crates/exports/out examples/first.rs -o "$folder/first-rust"
 "$folder/first-rust" | diff "$folder/expected" -
 echo "README's listing, and linked from C and from Rust: 3 programs, no difference"
