@@ -1,10 +1,10 @@
 #!/usr/bin/env bash
 # Feeds the listing program tables and texts that aren't tables, and compares what it prints byte for byte. The outputs expected are made
-# here, from the ids alone: nothing of the library enters them. Run it behind 'rt check listing', which builds the program.
+# here, from the ids alone: nothing of the library enters them. Run it behind examples/run, which builds the program.
 # It prints how many inputs were compared, or the first difference, and then exits with 1.
 set -eu
 cd "$(dirname "$0")/.."
-program=${1:-target/bin/listing}
+program=${1:-crates/listing/out/listing}
 work=$(mktemp -d)
 trap 'rm -rf "$work"' EXIT
 compared=0
