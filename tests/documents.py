@@ -11,17 +11,20 @@ from wrong_programs import applied
 
 ROOT = pathlib.Path(__file__).resolve().parent.parent
 PAGES = [ROOT / "README.md", *sorted((ROOT / "docs").glob("*.md"))]
-# Names that stand for many files, and files beside the repository (the Rust) or made by a command.
-OTHERS = re.compile(r"\*|NAME|MODULE|/F/|^\.\./shared|^target/|(?<!examples/first)\.rs$")
+# Names that stand for many files, and files beside the repository (the Rust, the kit's) or made by a command.
+OTHERS = re.compile(r"\*|NAME|MODULE|/F/|^\.\./shared|^target/|^port\.py$|(?<!examples/first)\.rs$")
 # What CHANGES.md says of earlier landings may name files that have moved since.
 FREE = {"CHANGES.md"}
 
 folders = {folder: folder.name for folder in ROOT.glob("tests/edits/*")} | {folder: folder.parent.name for folder in ROOT.glob("crates/*/must-fail")}
 edits = {edit.stem for folder in folders for edit in folder.glob("*.edit")}
-for folder, crate in folders.items():
-    for edit in folder.glob("*.edit"):
-        applied(ROOT / "crates" / crate, edit)
 wrong = []
+for folder, crate in folders.items():
+    for edit in sorted(folder.glob("*.edit")):
+        try:
+            applied(ROOT / "crates" / crate, edit)
+        except ValueError as why:
+            wrong.append(str(why).replace(f"{ROOT}/", ""))
 
 
 def found(name):
