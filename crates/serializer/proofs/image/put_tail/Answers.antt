@@ -1,6 +1,5 @@
 -- `serializer::image::put_tail` meets its contract: the frequencies go behind the ids.
 -- Assumes nothing.
-use Rattle.std.proofs.Common.{◌+◌, ◌≤◌, ◌++◌, length}
 use Rattle.format.specs.SkipEntry.{has_freq_of}
 use Rattle.format.specs.Values.{gaps_from}
 use Rattle.format.specs.Vint.{vints}
