@@ -16,7 +16,7 @@ loop-i-init c = record {
   within = omega arith;
   room = fits-room c.args.at _ c.args.bytes.now c.args.area.now refl _ c.within.ensures c.if-not-within.false;
   same_length = refl;
-  copied = paste-zero c.args.area.now c.args.at c.args.bytes.now
+  copied = paste-zero c.args.area.now c.args.at c.args.bytes.now;
 }
 
 pub loop-i-preserved : goal.loop-i-preserved

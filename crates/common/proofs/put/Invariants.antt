@@ -8,7 +8,7 @@ invariant-loop-i l = record {
   within : l.i ≤ length l.bytes;
   room : l.at + length l.bytes ≤ length l.initial.area;
   same_length : length l.area ≡ length l.initial.area;
-  copied : l.area ≡ paste l.initial.area l.at l.bytes l.i
+  copied : l.area ≡ paste l.initial.area l.at l.bytes l.i;
 }
 
 abbrev pub decreases-loop-i : goal.decreases-loop-i

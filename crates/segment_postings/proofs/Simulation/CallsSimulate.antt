@@ -236,22 +236,24 @@ module _ {t : Term} {bs : List ℕ} where
   calls_stand : {c : SegmentPostings} {m : State} → Stands t bs c m → (cs : List Call) → Stands t bs (cursor_after bs t c cs) (after_all (docs t bs) m cs)
   unfolding cursor_after after_all
   calls_stand k [] = k
-  calls_stand k (call ∷ cs) = calls_stand (call-goes k call).stands cs
+  calls_stand {c = c} {m = m} k (call ∷ cs) =
+      calls_stand {c = (called c bs t call).cursor} {m = after (docs t bs) m call} (call-goes k call).stands cs
 
   calls-show : {c : SegmentPostings} {m : State} → Stands t bs c m → (cs : List Call)
       → map shown (calls_from bs t c cs) ≡ answers_from (docs t bs) (freqs t bs) m cs
   calls-show k [] = rw (calls_from-none, answers_from-none)
-  calls-show k (call ∷ cs) =
+  calls-show {c = c} {m = m} k (call ∷ cs) =
       let g = call-goes k call in
-      rw (calls_from-more, answers_from-more) (ap₂ ◌∷◌ (shows g) (calls-show g.stands cs))
+      rw (calls_from-more, answers_from-more)
+      (ap₂ ◌∷◌ (shows g) (calls-show {c = (called c bs t call).cursor} {m = after (docs t bs) m call} g.stands cs))
 
   calls-numbered : {c : SegmentPostings} {m : State} → Stands t bs c m → (cs : List Call)
       → all_numbers (calls_from bs t c cs) ≡ model_numbers t.count (answers_from (docs t bs) (freqs t bs) m cs) (positions_from (docs t bs) m cs)
   calls-numbered k [] = rw (calls_from-none, answers_from-none) (none-numbered _ _)
-  calls-numbered k (call ∷ cs) =
+  calls-numbered {c = c} {m = m} k (call ∷ cs) =
       let g = call-goes k call in
       rw (calls_from-more, answers_from-more, positions_from-more, all_numbers-more, model_numbers-more)
-      (ap₂ ◌++◌ (ap numbers g.answer_is) (calls-numbered g.stands cs))
+      (ap₂ ◌++◌ (ap numbers g.answer_is) (calls-numbered {c = (called c bs t call).cursor} {m = after (docs t bs) m call} g.stands cs))
 
 -- ---- the theorem
 

@@ -197,8 +197,8 @@ differ_full false least vs = differ_plain least vs
 pub length-as_differences : (least : ℕ) (vs : List ℕ) → length (as_differences least vs) ≡ length vs
 unfolding as_differences
 length-as_differences least [] = refl
-length-as_differences zero (v ∷ vs) = refl
-length-as_differences (suc least) (v ∷ vs) = refl
+length-as_differences zero (v ∷ _) = refl
+length-as_differences (suc least) (v ∷ _) = refl
 
 pub length-full_differences : (strict : Bool) (least : ℕ) (vs : List ℕ) → length (full_differences strict least vs) ≡ length vs
 unfolding full_differences
@@ -213,8 +213,8 @@ first_below v = choose_elim (λ d. d < 2 ^ 32) (ltb v TERMINATED) _ _ (λ h. ome
 pub as_differences-below : (least : ℕ) (vs : List ℕ) → AllBelow (2 ^ 32) vs → AllBelow (2 ^ 32) (as_differences least vs)
 unfolding as_differences
 as_differences-below least [] a = tt
-as_differences-below zero (v ∷ vs) a = (first_below v, a.1)
-as_differences-below (suc least) (v ∷ vs) a = a
+as_differences-below zero (v ∷ _) a = (first_below v, a.1)
+as_differences-below (suc least) (v ∷ _) a = a
 
 pub full_differences-below : (strict : Bool) (least : ℕ) (vs : List ℕ) → AllBelow (2 ^ 31) vs → AllBelow (2 ^ 32) (full_differences strict least vs)
 unfolding full_differences

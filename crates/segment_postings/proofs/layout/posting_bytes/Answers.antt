@@ -1,0 +1,25 @@
+-- `segment_postings::layout::posting_bytes` meets its contract: the part lies at the places of the split, which are inside the image.
+-- Assumes nothing.
+use Rattle.std.proofs.Common.{sym, ◌∙◌}
+use native.Mathlib.Nat.{le_of_eq}
+use Rattle.std.proofs.Math.ListN.{length-drop}
+use Rattle.std.proofs.Math.Seq.{take_all}
+use Rattle.segment_postings.specs.Calls.{part_of}
+use Rattle.segment_postings.proofs.layout.SplitParts.{split_places, postings_at_is}
+use Rattle.segment_postings.proofs.layout.posting_bytes.Goals as goal
+
+pub slice_bounds-result-count : goal.slice_bounds-result-count
+slice_bounds-result-count c = (split_places _ c.args.image.now (sym c.in-At.ensures)).1
+
+pub slice_bounds-result-start : goal.slice_bounds-result-start
+slice_bounds-result-start c = (split_places _ c.args.image.now (sym c.in-At.ensures)).1
+
+pub returns-in-At : goal.returns-in-At
+unfolding part_of
+returns-in-At c =
+    let bs = c.args.image.now in
+    take_all _ _ (le_of_eq (length-drop c.in-At.postings bs)) ∙ postings_at_is _ bs (sym c.in-At.ensures)
+
+pub returns-in-Broken : goal.returns-in-Broken
+unfolding part_of
+returns-in-Broken c = postings_at_is _ c.args.image.now (sym c.in-Broken.ensures)

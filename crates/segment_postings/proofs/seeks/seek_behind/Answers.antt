@@ -1,0 +1,20 @@
+-- `segment_postings::seeks::seek_behind` meets its contract: from a full block, the block that `leave_whole` came to, and what the search
+-- answers in it.
+-- Assumes nothing.
+use Rattle.std.proofs.Common.{◌/◌, ◌<◌, arith}
+use Rattle.segment_postings.proofs.Laws.LandingParts.{none-reached, reaches_as}
+use Rattle.segment_postings.proofs.seeks.SeekCases.{then_nowhere, then_placed, behind-tail, behind-full}
+use Rattle.segment_postings.proofs.seeks.seek_behind.Goals as goal
+
+pub returns-then-full_blocks-held : goal.returns-then-full_blocks-held
+returns-then-full_blocks-held c = none-reached _ _ (behind-tail _ _ _ _ (omega arith))
+
+pub returns-in-At : goal.returns-in-At
+returns-in-At c =
+    let full : c.args.held.block < c.args.term.count / 128 = omega arith in
+    reaches_as (behind-full _ _ _ _ full) (then_placed c.leave_whole.ensures _ c.in-At.is c.search_block.ensures.value c.at_place.ensures)
+
+pub returns-in-Refused : goal.returns-in-Refused
+returns-in-Refused c =
+    let full : c.args.held.block < c.args.term.count / 128 = omega arith in
+    reaches_as (behind-full _ _ _ _ full) (then_nowhere c.leave_whole.ensures _ c.in-Refused.is)
