@@ -1,5 +1,5 @@
 -- What is written so far is a copy of the first `i` bytes, all of which fit; the measure is the bytes left.
-use Rattle.std.proofs.Common.{length, ◌-◌, ◌≡◌, ◌+◌, ℕ, ◌≤◌}
+use Rattle.std.proofs.Common.{length, ◌-◌, ◌≡◌, ◌+◌, ◌≤◌}
 use Rattle.std.proofs.Math.Seq.{paste}
 use Rattle.common.proofs.put.Given as goal
 

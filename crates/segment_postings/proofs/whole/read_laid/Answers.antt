@@ -2,7 +2,7 @@
 -- were is what is still to be read, put behind the blocks written. A refusal would contradict that the image is sound. The measure is
 -- the full blocks left.
 -- Assumes nothing.
-use Rattle.std.proofs.Common.{◌-◌, ◌<◌, arith}
+use Rattle.std.proofs.Common.{◌<◌, arith}
 use Rattle.format.specs.Layout.{full_blocks_of}
 use Rattle.segment_postings.proofs.Admission.WalkTurns.{lands-from, turn-held, turn}
 use Rattle.segment_postings.proofs.Laws.LandingParts.{landed_at, landed_nowhere}
