@@ -74,7 +74,8 @@ known_none ns = rw drop-length
 
 pub numbers-length : (a : Answer) → length (numbers a) ≡ answer_length
 unfolding numbers
-numbers-length a = elim a [ At doc freq unpacked entries ↦ refl | Refused n ↦ refl ]
+numbers-length (At doc freq unpacked entries) = refl
+numbers-length (Refused n) = refl
 
 pub all-numbers : (answers : List Answer) → length (all_numbers answers) ≡ answer_length * length answers
 unfolding all_numbers

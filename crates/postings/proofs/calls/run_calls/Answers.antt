@@ -1,0 +1,19 @@
+-- `postings::calls::run_calls` meets its contract: its four ways out.
+use Rattle.std.proofs.Common.{sym, ◌∙◌}
+use Rattle.postings.proofs.calls.RunCases.{run-no-room, run_unknown, run-refused, run-all}
+use Rattle.postings.proofs.calls.run_calls.Goals as goal
+
+pub returns-then-answers-calls : goal.returns-then-answers-calls
+returns-then-answers-calls c = run-no-room _ _ _ _ c.if-answers-calls.true
+
+pub returns-then-not-kinds_known : goal.returns-then-not-kinds_known
+returns-then-not-kinds_known c = run_unknown _ _ _ _ (sym c.if-not-kinds_known.ensures)
+
+pub returns-in_default : goal.returns-in_default
+returns-in_default c =
+    run-refused _ _ _ _ c.if-answers-calls.false (sym c.if-not-kinds_known.ensures) _ c.open-opened.ensures c.in_default.is c.put_answer.ensures
+
+pub returns : goal.returns
+returns c =
+    run-all _ _ _ _ c.if-answers-calls.false (sym c.if-not-kinds_known.ensures)
+    _ c.open-opened.ensures c.in-At.is c.put_answer.ensures c.run_from.ensures

@@ -1,0 +1,25 @@
+-- `postings::calls::run_from` meets its contract: what all calls write from the start is what those still to come write behind what is
+-- written already.
+use Rattle.std.proofs.Common.{◌≡◌, refl, sym, ap, ◌∙◌, length, arith}
+use Rattle.format.proofs.Area.{length-put_at}
+use Rattle.postings.proofs.calls.CodedCalls.{written_on, written_all}
+use Rattle.postings.proofs.calls.run_from.Goals as goal
+
+pub loop-i-init : goal.loop-i-init
+loop-i-init c = record { within = omega arith; same_length = refl; to_come = refl }
+
+pub loop-i-preserved : goal.loop-i-preserved
+loop-i-preserved c =
+    let l = c.loop-i in
+    let inv = l.invariant in
+    record {
+      within = omega arith;
+      same_length = ap length c.put_answer.ensures ∙ length-put_at _ _ _ ∙ inv.same_length;
+      to_come = written_on _ _ _ l.i l.moved.cursor l.answers (omega arith) (omega (arith, c.requires, inv.same_length)) inv.to_come
+          c.make_call-moved.ensures c.put_answer.ensures;
+    }
+
+pub returns : goal.returns
+returns c =
+    let all : c.loop-i.i ≡ length c.args.calls.now = omega arith in
+    sym (c.loop-i.invariant.to_come ∙ rw all (written_all _ _ c.args.calls.now _ _ _))
