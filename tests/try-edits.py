@@ -67,18 +67,17 @@ def main():
                 print(said[-1000:])
                 failed += 1
         # A refusal says nothing where the crate isn't proved without it.
-        if edits and not failed:
-            status, said = run(["rt", "must-fail", *edits], copy)
-            told = {(crate, edit): what for crate, edit, what in TRIED.findall(said)}
-            for crate, of in edits.items():
-                for edit in of:
-                    good, line = judged(told.get((crate, edit.stem), "NOT TRIED"))
-                    print(f"{crate}/{edit.stem}: {line}", flush=True)
-                    failed += not good
-                    done += 1
-            if status and not failed:
-                print(said[-1000:])
-                failed += 1
+        for crate, of in {} if failed else edits.items():
+            status, said = run(["rt", "must-fail", crate], copy)
+            told = {edit: what for name, edit, what in TRIED.findall(said) if name == crate}
+            lines = [(edit.stem, *judged(told.get(edit.stem, "NOT TRIED"))) for edit in of]
+            for edit, good, line in lines:
+                print(f"{crate}/{edit}: {line}", flush=True)
+            bad = sum(not good for _, good, _ in lines)
+            if status and not bad:
+                print(f"{crate}: rt must-fail ended with {status}: {said[-1000:]}")
+            failed += bad or status != 0
+            done += len(of)
     print(f"edits: {done} tried, {failed} not refused because a fact fails")
     sys.exit(failed > 0 or done == 0)
 
