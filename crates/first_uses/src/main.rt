@@ -13,7 +13,7 @@ use crate::writing::{write_each, write_on_arrays, write_whole};
 use postings::Term;
 use std::io;
 
-// The first n bytes. That a part lies within its slice is a fact that takes a line of proof (proofs/front).
+// The first n bytes. That a part lies within its slice is a fact that must be proved: the test is what shows it.
 fn front(output: &[u8], n: usize) -> &[u8] {
     if output.len() < n {
         return output;

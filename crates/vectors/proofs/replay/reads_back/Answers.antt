@@ -1,0 +1,29 @@
+-- `vectors::replay::reads_back` meets its contract: an answer that shows the next document leads on, another ends the walk.
+use Rattle.std.proofs.Common.{◌≡◌, sym, ◌∙◌, length, arith}
+use Rattle.vectors.proofs.Walks.{reads-from, walk_end, walk-stop, walk-on}
+use Rattle.vectors.proofs.replay.reads_back.Goals as goal
+
+pub returns-then-not-shows : goal.returns-then-not-shows
+returns-then-not-shows c =
+    let so_far =
+    reads-from c.args.mode c.args.recording c.args.ids.now c.args.freqs.now c.args.image.now _ _ _
+    c.record_option.ensures c.has_freq-kept.ensures c.open-moved.ensures
+    ∙ c.loop-i.invariant.so_far in
+    sym (walk-stop _ _ _ _ _ c.loop-i.i _ so_far (omega arith) c.requires.1
+    (rw (← c.read_freq.ensures) (sym c.if-not-shows.ensures)))
+
+pub loop-i-preserved : goal.loop-i-preserved
+loop-i-preserved c =
+    let on =
+    walk-on _ _ _ _ _ c.loop-i.i _ c.loop-i.invariant.so_far (omega arith) c.requires.1
+    (rw (← c.read_freq.ensures) (sym c.if-not-shows.ensures)) in
+    record { within = omega arith; so_far = rw c.advance-moved.ensures on }
+
+pub returns : goal.returns
+returns c =
+    let so_far =
+    reads-from c.args.mode c.args.recording c.args.ids.now c.args.freqs.now c.args.image.now _ _ _
+    c.record_option.ensures c.has_freq-kept.ensures c.open-moved.ensures
+    ∙ c.loop-i.invariant.so_far in
+    let all : c.loop-i.i ≡ length c.args.ids.now = omega arith in
+    c.shows-2.ensures ∙ sym (walk_end _ _ _ _ _ c.loop-i.i _ so_far all)
