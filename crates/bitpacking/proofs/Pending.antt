@@ -2,7 +2,7 @@
 --     pending-below   they are fewer than a word where fewer than 32 are
 --     pending-more    a row's value goes above them
 --     pending-word    once a word is full, it is the lane's next word, byte for byte
---     pending-less    taken off, the rest is what is pending behind it
+--     pending_less    taken off, the rest is what is pending behind it
 -- Assumes nothing.
 use mathlib.Core.Path.{◌≡◌, refl, sym, ap, ap₂, ◌∙◌}
 use mathlib.Core.List.{List}

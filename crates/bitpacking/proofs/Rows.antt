@@ -2,7 +2,8 @@
 --     none_left     nothing is left before the first row
 --     row_within    where enough bits are left, the values are their lowest
 --     left-within   .. and the others are left behind the row
---     row_across    else the values begin with what is left and go on in the lanes' next words, which lie within the block,
+--     next_inside   else the lanes' next words lie within the block,
+--     row_across    the values begin with what is left and go on in these words,
 --     left_across   and what they leave of the words is left behind the row
 -- Assumes nothing.
 use mathlib.Core.Path.{◌≡◌, refl, sym, ap, ◌∙◌}
@@ -73,6 +74,9 @@ module _ {w row mask : ℕ} {bs vs : List ℕ} {s : Left} (t : RowThere w row ma
     -- the next words are none of those behind the block's last
     at-word : s.at / 16 < w
     at-word = omega (arith, mul-le-mul_right w t.row_below, row_more w row)
+
+    pub next_inside : s.at + 16 ≤ 16 * w
+    next_inside = omega (arith, at-word)
 
     module _ (bytes : AllBelow 256 bs) where
       next : (m : ℕ) {p : ℕ} → p ≡ s.at + 4 * m → word bs p ≡ lane w row bs m / 2 ^ s.bits % 2 ^ 32

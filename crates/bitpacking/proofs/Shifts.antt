@@ -3,10 +3,10 @@
 --     upper          .. and those above them
 -- .. on words of 32 bits
 --     joined         a value of two parts, put together by a shift, `|` and a mask
---     mask-ones      the mask of w ones
+--     mask_ones      the mask of w ones
 -- .. on words of 64 bits
---     shifted-below  a value of 32 bits, shifted, has room
---     masked-shift   a value put above other bits
+--     shifted_below  a value of 32 bits, shifted, has room
+--     masked_shift   a value put above other bits
 --     one_shifted    one more than the mask of w ones
 -- Assumes nothing.
 use mathlib.Core.Path.{◌≡◌, sym, ap, ◌∙◌}

@@ -4,6 +4,7 @@
 use mathlib.Core.Path.{◌≡◌, refl, sym, ap, ◌∙◌}
 use mathlib.Core.List.{List, [], ◌∷◌, ◌++◌}
 use Prim.Native.Nat.{ℕ, ◌+◌, ◌*◌, ◌^◌, ◌≤◌, ◌<◌}
+use native.Mathlib.Nat.{zero-add}
 use native.Mathlib.Omega.{arith}
 use lib.ListN.{length}
 use Rattle.format.specs.declared.Next.TheVariants.{At}
@@ -16,6 +17,9 @@ use Rattle.format.proofs.VintCode.{length-vint, length-vints, vints-nil, vints-c
 pub record Counted (whole rest : List ℕ) (i size : ℕ) : Type 0 where
   pub total : size + length (vints rest) ≡ length (vints whole)
   pub small : size ≤ 5 * i
+
+pub counted_none : (whole : List ℕ) → Counted whole whole 0 0
+counted_none whole = record { total = zero-add _; small = omega arith }
 
 pub counted_next : {whole rest rest' : List ℕ} {i size v : ℕ} → rest ≡ v ∷ rest' → v < 2 ^ 32 → Counted whole rest i size
     → Counted whole rest' (i + 1) (size + length (vint v))

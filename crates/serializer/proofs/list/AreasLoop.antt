@@ -58,6 +58,12 @@ module _ (option : IndexRecordOption) (ds fs skips₀ postings₀ : List ℕ) wh
   written_all e w = record { skips_after = rw e at w.skips_are; postings_after = rw e at w.postings_are }
 
   module _ {n least : ℕ} {at : Places} {skips postings : List ℕ} (w : Written n least at skips postings) where
+    pub skips-kept : length skips ≡ length skips₀
+    skips-kept = rw w.skips_are (length-put_at 0 _ skips₀)
+
+    pub postings-kept : length postings ≡ length postings₀
+    postings-kept = rw w.postings_are (length-put_at 0 _ postings₀)
+
     module _ (more : n < length ds / 128) (fits : blocks_fit option ds fs skips₀ postings₀ ≡ true)
         {skips' postings' : List ℕ} {r : Placed}
         (b : BlockWritten option least (take 128 (drop (128 * n) ds)) (take 128 (drop (128 * n) fs)) at skips postings skips' postings' r) where
