@@ -30,7 +30,7 @@ pub record WritesList (mode : ℕ) (recording : Bool) (begun : PostingsSerialize
   pub postings_after : areas.postings ≡ put_at 0 (blocks_of (kept_in mode recording) (length ds / 128) 0 ds fs).postings postings
   pub closes : (output : List ℕ) → length image ≤ length output
       → closing areas.state (length ds) areas.skips areas.postings output ≡ ok image
-  pub no_room_lem : (output : List ℕ) → length output < length image
+  pub without_room : (output : List ℕ) → length output < length image
       → closing areas.state (length ds) areas.skips areas.postings output ≡ refused no_room
   pub miscounted : (announced : ℕ) (output : List ℕ) → announced ≢ length ds
       → closing areas.state announced areas.skips areas.postings output ≡ refused count_mismatch

@@ -22,9 +22,9 @@ use Rattle.postings.proofs.calls.ModelAnswers.{all_answered, answers_model, entr
 -- ---- what is taken
 
 module _ (ns out : List ℕ) where
-  no_room_lem : length out / answer_length ≤ length ns → taken ns out ≡ false
+  without_room : length out / answer_length ≤ length ns → taken ns out ≡ false
   unfolding taken
-  no_room_lem h = rw (lt-leb (answer_length * (length ns + 1)) (length out) (omega arith))
+  without_room h = rw (lt-leb (answer_length * (length ns + 1)) (length out) (omega arith))
 
   unknown_kind : all_known ns ≡ false → taken ns out ≡ false
   unfolding taken
@@ -51,7 +51,7 @@ module _ (bs : List ℕ) (t : Term) (ns out : List ℕ) where
   }
 
   pub run-no-room : length out / answer_length ≤ length ns → Runs bs t ns out out 0
-  run-no-room h = not-run (no_room_lem ns out h)
+  run-no-room h = not-run (without_room ns out h)
 
   pub run_unknown : all_known ns ≡ false → Runs bs t ns out out 0
   run_unknown e = not-run (unknown_kind ns out e)

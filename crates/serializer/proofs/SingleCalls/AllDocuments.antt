@@ -58,36 +58,36 @@ pub record Ended (s : PostingsSerializer) (ds fs skips postings : List ℕ) (r :
 
 -- 15 where the blocks don't fit; else what the definitions refuse; else all were taken
 pub data Answers (P : Outcome Areas → Type 0) : Bool → Outcome ℕ → Outcome Areas → Type 0 where
-  no_room_lem : {o : Outcome ℕ} {r : Outcome Areas} → r ≡ refused no_room → Answers P false o r
+  without_room : {o : Outcome ℕ} {r : Outcome Areas} → r ≡ refused no_room → Answers P false o r
   refuses : {n : ℕ} {r : Outcome Areas} → r ≡ refused n → Answers P true (refused n) r
   ends : {next : ℕ} {r : Outcome Areas} → P r → Answers P true (ok next) r
 
 module _ {P : Outcome Areas → Type 0} where
   pub answers-room : {b : Bool} {o : Outcome ℕ} {r : Outcome Areas} → Answers P b o r → b ≡ false → r ≡ refused no_room
-  answers-room (no_room_lem e) f = e
+  answers-room (without_room e) f = e
   answers-room (refuses e) f = absurd (false≢true (sym f))
   answers-room (ends p) f = absurd (false≢true (sym f))
 
   pub answers-refused : {b : Bool} {o : Outcome ℕ} {r : Outcome Areas} {n : ℕ} → Answers P b o r → b ≡ true → o ≡ refused n
       → r ≡ refused n
-  answers-refused (no_room_lem e) f t = absurd (false≢true f)
+  answers-refused (without_room e) f t = absurd (false≢true f)
   answers-refused (refuses e) f t = cc
   answers-refused (ends p) f t = absurd (refused≢ok (sym t))
 
   pub answers-ok : {b : Bool} {o : Outcome ℕ} {r : Outcome Areas} {next : ℕ} → Answers P b o r → b ≡ true → o ≡ ok next → P r
-  answers-ok (no_room_lem e) f t = absurd (false≢true f)
+  answers-ok (without_room e) f t = absurd (false≢true f)
   answers-ok (refuses e) f t = absurd (refused≢ok t)
   answers-ok (ends p) f t = p
 
   pub answers-taken : {b : Bool} {o : Outcome ℕ} {r : Outcome Areas} {a : Areas} → Answers P b o r → r ≡ ok a
       → (next : ℕ) × (b ≡ true) × (o ≡ ok next) × P r
-  answers-taken (no_room_lem e) all = absurd (refused≢ok (sym e ∙ all))
+  answers-taken (without_room e) all = absurd (refused≢ok (sym e ∙ all))
   answers-taken (refuses e) all = absurd (refused≢ok (sym e ∙ all))
   answers-taken (ends {next} p) all = (next, refl, refl, p)
 
   answers-map : {Q : Outcome Areas → Type 0} {b : Bool} {o : Outcome ℕ} {r : Outcome Areas} → (b ≡ true → P r → Q r)
       → Answers P b o r → Answers Q b o r
-  answers-map m (no_room_lem e) = no_room_lem e
+  answers-map m (without_room e) = without_room e
   answers-map m (refuses e) = refuses e
   answers-map m (ends p) = ends (m refl p)
 
@@ -201,7 +201,7 @@ module _ {s : PostingsSerializer} {skips postings : List ℕ} {d f : ℕ} (a : A
 
   document_fills : Later ds fs → s.waiting ≡ 127 → (fits : Bool) → block_fits_here ≡ fits → Claim s (d ∷ ds) (f ∷ fs) skips postings
   unfolding and_then ask
-  document_fills later whole false b = rw (room_fills whole, take_all_docs-cons, call_fills a whole, b) (no_room_lem refl)
+  document_fills later whole false b = rw (room_fills whole, take_all_docs-cons, call_fills a whole, b) (without_room refl)
   document_fills later whole true b =
       let claim = rw (filled-option a, filled_next a whole) at (later (filled s d f) skips_next postings_next (held_fills whole b)) in
       rw (room_fills whole, take_docs-cons, take_all_docs-cons, a.accepted, call_fills a whole, b)

@@ -212,7 +212,7 @@ module _ {mode : ℕ} {recording : Bool} {s : PostingsSerializer} (begun : Begun
           skips_after = ended-areas.0;
           postings_after = ended-areas.1;
           closes = λ output fits. ended-closes (length ds) output ∙ rw (eq-eqb (length ds) _ refl, zero-add, le-leb _ _ fits);
-          no_room_lem = λ output fits. ended-closes (length ds) output ∙ rw (eq-eqb (length ds) _ refl, zero-add, lt-leb _ _ fits);
+          without_room = λ output fits. ended-closes (length ds) output ∙ rw (eq-eqb (length ds) _ refl, zero-add, lt-leb _ _ fits);
           miscounted = λ announced output other. ended-closes announced output ∙ rw (ne_eqb (length ds) announced (λ e. other (sym e)));
         }
 

@@ -133,10 +133,10 @@ module _ (s : PostingsSerializer) (d f : ℕ) (skips postings : List ℕ) where
 -- ---- what finishing a block leaves
 
 -- the answer of `write_block` says whether the block had room
-no_room_lem : (t : Bool) (at : Places) → NoRoom ≡ choose t (λ _. At at) (λ _. NoRoom) → t ≡ false
+without_room : (t : Bool) (at : Places) → NoRoom ≡ choose t (λ _. At at) (λ _. NoRoom) → t ≡ false
 unfolding choose
-no_room_lem true at e = absurd (let z : ◌≡◌ {A = ℕ} 0 1 = cc in omega arith)
-no_room_lem false at e = refl
+without_room true at e = absurd (let z : ◌≡◌ {A = ℕ} 0 1 = cc in omega arith)
+without_room false at e = refl
 
 had-room : (t : Bool) (at : Places) {at' : Places} → At at' ≡ choose t (λ _. At at) (λ _. NoRoom) → (t ≡ true) × (at' ≡ at)
 unfolding choose
@@ -185,7 +185,7 @@ module _ (full : PostingsSerializer) (least : ℕ) (skips postings docs freqs : 
       → SettledIn (finished full least skips postings) docs freqs skips postings docs freqs skips' postings' (Refused no_room)
   unfolding ask choose
   finish_refused w =
-      let short = no_room_lem fits _ w.placed in
+      let short = without_room fits _ w.placed in
       rw (w.skips_after, w.postings_after, short) (settled_refused docs freqs skips postings (rw (finished-is, short)))
 
   finish_done : {skips' postings' : List ℕ} {next : Places} → Written skips' postings' (At next)

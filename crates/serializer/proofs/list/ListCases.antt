@@ -130,9 +130,9 @@ module _ (mode : ℕ) (recording : Bool) (ds fs skips postings output : List ℕ
       announcing-room h = rw (announcing-is, e, eq-eqb _ _ h) (listing-room e)
 
       module _ (h : length ds ≡ announced) {b : Bool} (fits : b ≡ list_fits_of (kept_in mode recording) ds fs skips postings (length output)) where
-        pub no_room_lem : b ≡ false → announcing mode recording announced ds fs skips postings output ≡ refused no_room
+        pub without_room : b ≡ false → announcing mode recording announced ds fs skips postings output ≡ refused no_room
         unfolding ask
-        no_room_lem f = announcing-room h ∙ rw (sym fits ∙ f)
+        without_room f = announcing-room h ∙ rw (sym fits ∙ f)
 
         pub with_room : b ≡ true → announcing mode recording announced ds fs skips postings output ≡ ok (image (kept_in mode recording) ds fs)
         unfolding ask

@@ -1,3 +1,4 @@
+-- The definition, opened, is what is returned.
 use Rattle.std.proofs.Common.{rules}
 use Rattle.serves.specs.Serve.{ends}
 use Rattle.serves.proofs.hand_out.Goals as goal

@@ -1,3 +1,4 @@
+-- What a branch answers is its definition, opened, at the test that led there.
 use Rattle.std.proofs.Common.{rules}
 use Rattle.serves.specs.Mark.{marks, marks_seen, marks_last}
 use Rattle.serves.proofs.mark.Goals as goal

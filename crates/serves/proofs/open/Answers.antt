@@ -1,3 +1,4 @@
+-- What a branch answers is its definition, opened, at the test that led there.
 use Rattle.std.proofs.Common.{rules}
 use Rattle.serves.specs.Serve.{opens, opens_docs, opens_freqs}
 use Rattle.serves.proofs.open.Goals as goal

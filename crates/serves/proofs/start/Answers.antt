@@ -1,3 +1,4 @@
+-- What a branch answers is its definition, opened, at the test that led there.
 use Rattle.std.proofs.Common.{rules}
 use Rattle.serves.specs.Mark.{starts, starts_seen, starts_last}
 use Rattle.serves.proofs.start.Goals as goal

@@ -1,3 +1,4 @@
+-- What a branch answers is its definition, opened, at the test that led there.
 use Rattle.std.proofs.Common.{rules}
 use Rattle.serves.specs.Mark.{sums}
 use Rattle.serves.proofs.sum_up.Goals as goal

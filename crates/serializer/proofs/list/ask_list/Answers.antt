@@ -2,7 +2,7 @@
 -- Assumes nothing.
 use Rattle.std.proofs.Common.{◌∙◌}
 use Rattle.serializer.proofs.Laws.AnswerTells.{accepted-yes, accepted-refused, answers-yes, answers-no}
-use Rattle.serializer.proofs.list.ListCases.{checked, announcing-refused, miscounted, no_room_lem, with_room}
+use Rattle.serializer.proofs.list.ListCases.{checked, announcing-refused, miscounted, without_room, with_room}
 use Rattle.serializer.proofs.list.ask_list.Goals as goal
 
 pub returns-in_default : goal.returns-in_default
@@ -19,7 +19,7 @@ has_room-requires c = (checked _ _ _ _ (accepted-yes _ c.ask_docs-asked.ensures 
 pub returns-then-not-has_room : goal.returns-then-not-has_room
 returns-then-not-has_room c =
     let fits = rw c.record_option-option.ensures at c.has_room.ensures in
-    answers-no (no_room_lem _ _ _ _ _ _ _ _ (accepted-yes _ c.ask_docs-asked.ensures c.in-Yes.is).1 c.if-ids-announced.false
+    answers-no (without_room _ _ _ _ _ _ _ _ (accepted-yes _ c.ask_docs-asked.ensures c.in-Yes.is).1 c.if-ids-announced.false
     fits c.if-not-has_room.true)
 
 pub returns : goal.returns

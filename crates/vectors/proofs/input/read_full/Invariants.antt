@@ -1,3 +1,4 @@
+-- The loop's invariant: the buffer keeps its length, and what is put lies within it. The measure is the room left.
 use Rattle.std.proofs.Common.{length, ◌-◌, ◌≤◌, ◌≡◌}
 use Rattle.vectors.proofs.input.read_full.Given as goal
 
