@@ -3,6 +3,8 @@
 
 #![tactic(auto)]
 
+pub mod lent;
+
 ghost use Rattle.std.specs.Prelude.{◌≡◌};
 ghost use Rattle.thin.specs.Fold.{pass};
 ghost use Rattle.serves.specs.Serve.{asks_one, asks_all, opens, opens_docs, opens_freqs, turns, turns_docs, turns_freqs, ends};

@@ -1,0 +1,61 @@
+// A step on a record that its caller lends, by the call by value, and the same by value once more: the first use of `thin`'s theorems over one
+// record. The record and its answer stand in for a cursor's.
+
+ghost use Rattle.std.specs.Prelude.{◌≡◌};
+ghost use Rattle.serves.specs.Lent.{stepped, Leaves};
+
+// What a step answers.
+#[derive(Clone, Copy)]
+pub enum Shown {
+    Nothing,
+    Document(u32),
+}
+
+// Where the reading stands: the document, and the one before it.
+#[derive(Clone, Copy)]
+pub struct Place {
+    pub doc: u32,
+    pub before: u32,
+}
+
+#[derive(Clone, Copy)]
+pub struct Stepped {
+    pub shown: Shown,
+    pub place: Place,
+}
+
+// Goes to a document, and shows the one that it leaves; an empty image shows nothing.
+pub fn step(place: Place, image: &[u8], doc: u32) -> Stepped
+    ensures { result ≡ stepped place image.now doc }
+{
+    let next = Place {
+        doc,
+        before: place.doc,
+    };
+    if image.len() == 0 {
+        return Stepped {
+            shown: Shown::Nothing,
+            place: next,
+        };
+    }
+    Stepped {
+        shown: Shown::Document(place.doc),
+        place: next,
+    }
+}
+
+pub fn step_mut(place: &mut Place, image: &[u8], doc: u32) -> Shown
+    ensures { Leaves (stepped place.old image.now doc) result place.new }
+{
+    let m = step(*place, image, doc);
+    *place = m.place;
+    m.shown
+}
+
+pub fn step_by_lending(was: Place, image: &[u8], doc: u32) -> Stepped
+    ensures { result ≡ stepped was image.now doc }
+{
+    let mut mine = was;
+    let shown = step_mut(&mut mine, image, doc);
+    Stepped { shown, place: mine }
+}
