@@ -14,5 +14,5 @@ stepped p image doc = record {
 }
 
 -- the answer is the step's, and so is what is left of the place that was lent
-abbrev pub Leaves : Stepped → Shown → Place → Type 0
-Leaves m shown after = (shown ≡ m.shown) × (after ≡ m.place)
+abbrev pub LeavesPlace : Stepped → Shown → Place → Type 0
+LeavesPlace m shown after = (shown ≡ m.shown) × (after ≡ m.place)

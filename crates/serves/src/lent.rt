@@ -2,7 +2,7 @@
 // record. The record and its answer stand in for a cursor's.
 
 ghost use Rattle.std.specs.Prelude.{◌≡◌};
-ghost use Rattle.serves.specs.Lent.{stepped, Leaves};
+ghost use Rattle.serves.specs.Lent.{stepped, LeavesPlace};
 
 // What a step answers.
 #[derive(Clone, Copy)]
@@ -45,7 +45,7 @@ pub fn step(place: Place, image: &[u8], doc: u32) -> Stepped
 }
 
 pub fn step_mut(place: &mut Place, image: &[u8], doc: u32) -> Shown
-    ensures { Leaves (stepped place.old image.now doc) result place.new }
+    ensures { LeavesPlace (stepped place.old image.now doc) result place.new }
 {
     let m = step(*place, image, doc);
     *place = m.place;
