@@ -16,6 +16,8 @@ import subprocess
 import sys
 import tempfile
 
+from wrong_programs import applied
+
 ROOT = pathlib.Path(__file__).resolve().parent.parent
 KEPT = ROOT / "tests/edits"
 
@@ -23,6 +25,11 @@ TRIED = re.compile(r"^rt: must-fail (\w+)/(\S+)\.edit: (.*(?:\n(?!rt: ).*)*)", r
 # What `rt must-fail` says of an edit that is refused, and what it adds where no fact failed.
 REFUSED = "refused, as it must be"
 NO_FACT = ("(only because a proof file names", "(only by a limit of the prover")
+# Of a refusal `rt must-fail` prints the first line alone that isn't about a name. That line may itself only follow from one: a goal is named
+# after the code, so where the name goes, the goal stands without the proof that a file has for it, and proofs that cite that one aren't tried.
+MAY_FOLLOW = re.compile(r"^refused, as it must be: (note: |.*declarations? that depends? on)")
+NAMED = re.compile(r"(note: )?(\./)?proofs/.*(has no field|is not in scope|has no `|\(nearest: |was not admitted|not checked)")
+FALSE = "the facts known there allow values"
 
 
 def copied(edits, folder):
@@ -45,9 +52,27 @@ def run(words, folder):
     return ran.returncode, ran.stdout
 
 
-def judged(said):
+def of_names_alone(crate, edit):
+    """Whether all that a check of the crate in this folder with the edit says follows from names that the edit took away."""
+    texts = applied(crate, edit)
+    before = {path: path.read_text() for path in texts}
+    try:
+        for path, text in texts.items():
+            path.write_text(text)
+        _, said = run(["rt", "check"], crate)
+    finally:
+        for path, text in before.items():
+            path.write_text(text)
+    told = re.findall(r"^(?:note: \S+:\d+:\d+: |\S+:\d+:\d+: error).*", said, re.M)
+    other = [line for line in told if not NAMED.match(line)]
+    return len(other) < len(told) and not any(FALSE in line or not line.startswith("note: ") for line in other)
+
+
+def judged(said, crate, edit):
     """Whether the edit is refused because a fact fails, and what to say of it."""
     good = said.startswith(REFUSED) and not any(words in said for words in NO_FACT)
+    if good and MAY_FOLLOW.match(said) and FALSE not in said and of_names_alone(crate, edit):
+        good, said = False, f"{said} (which only follows from a name in a proof file that the edit took away)"
     said = " ".join(said.split())[:400]
     return good, said.replace(REFUSED, "refused") if good else f"NO FACT FAILS: {said}"
 
@@ -70,7 +95,7 @@ def main():
         for crate, of in {} if failed else edits.items():
             status, said = run(["rt", "must-fail", crate], copy)
             told = {edit: what for name, edit, what in TRIED.findall(said) if name == crate}
-            lines = [(edit.stem, *judged(told.get(edit.stem, "NOT TRIED"))) for edit in of]
+            lines = [(edit.stem, *judged(told.get(edit.stem, "NOT TRIED"), copy / "crates" / crate, edit)) for edit in of]
             for edit, good, line in lines:
                 print(f"{crate}/{edit}: {line}", flush=True)
             bad = sum(not good for _, good, _ in lines)
