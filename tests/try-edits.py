@@ -27,7 +27,8 @@ REFUSED = "refused, as it must be"
 NO_FACT = ("(only because a proof file names", "(only by a limit of the prover")
 # Of a refusal `rt must-fail` prints the first line alone that isn't about a name. That line may itself only follow from one: a goal is named
 # after the code, so where the name goes, the goal stands without the proof that a file has for it, and proofs that cite that one aren't tried.
-MAY_FOLLOW = re.compile(r"^refused, as it must be: (note: |.*declarations? that depends? on)")
+# (The goal `returns` keeps its name whatever changes.)
+MAY_FOLLOW = re.compile(r"^refused, as it must be: (note: (?!.*\(`returns`\))|.*declarations? that depends? on)")
 NAMED = re.compile(r"(note: )?(\./)?proofs/.*(has no field|is not in scope|has no `|\(nearest: |was not admitted|not checked)")
 FALSE = "the facts known there allow values"
 
