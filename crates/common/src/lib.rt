@@ -6,33 +6,24 @@
 ghost use Rattle.std.specs.Prelude.{◌≡◌, ◌+◌, ◌-◌, ◌*◌, leb};
 ghost use Rattle.format.specs.Basics.{put_at, next_at, le32};
 
-use format::Next;
-
 // Whether `size` bytes from place `at` on lie within `len`; no sum of the two is made, which might wrap.
 pub fn within(at: usize, size: usize, len: usize) -> bool
     ensures { result ≡ leb (at + size) len }
 {
-    if len < size {
-        return false;
-    }
-    at <= len - size
+    size <= len && at <= len - size
 }
 
-// Copies `bytes` into `area` from place `at` on; where they don't fit, nothing is written.
-pub fn put(bytes: &[u8], area: &mut [u8], at: usize) -> Next
+// Copies `bytes` into `area` from place `at` on: the place behind them. Where they don't fit, nothing is written.
+pub fn put(bytes: &[u8], area: &mut [u8], at: usize) -> Option<usize>
     ensures next { result ≡ next_at at bytes.now area.old }
     ensures area { area.new ≡ put_at at bytes.now area.old }
 {
     if !within(at, bytes.len(), area.len()) {
-        return Next::Refused;
+        return None;
     }
-    let mut i = 0;
-    while i < bytes.len() {
-        area[at + i] = bytes[i];
-        i += 1;
-    }
-    let end = at + i;
-    Next::At(end)
+    let end = at + bytes.len();
+    area[at..end].copy_from_slice(bytes);
+    Some(end)
 }
 
 // The number whose bytes are a, b, c, d, lowest first. The compiler makes one load of it where they lie side by side. Who reads them of
@@ -41,24 +32,19 @@ pub fn put(bytes: &[u8], area: &mut [u8], at: usize) -> Next
 pub fn u32_from_le_bytes(a: u8, b: u8, c: u8, d: u8) -> u32
     ensures { result ≡ a + 256 * b + 65536 * c + 16777216 * d }
 {
-    (a as u32) | ((b as u32) << 8) | ((c as u32) << 16) | ((d as u32) << 24)
+    u32::from_le_bytes([a, b, c, d])
 }
 
 // The bytes of a number, lowest first.
 pub fn u32_to_le_bytes(x: u32) -> [u8; 4]
     ensures { result ≡ le32 x }
 {
-    [
-        (x % 256) as u8,
-        (x / 256 % 256) as u8,
-        (x / 65536 % 256) as u8,
-        (x / 16777216 % 256) as u8,
-    ]
+    x.to_le_bytes()
 }
 
 // a - b, 0 where b is larger.
 pub fn difference(a: u32, b: u64) -> u32
     ensures { result ≡ a - b }
 {
-    if b <= a as u64 { a - b as u32 } else { 0 }
+    (a as u64).saturating_sub(b) as u32
 }

@@ -1,6 +1,7 @@
 -- What an accepted list is: its ids rise, the frequencies that are kept are at least 1, and there are as many of these as of
 -- those. Each is the answer to one question, read off document by document. Ids that rise below TERMINATED are no more than that.
 -- Assumes nothing.
+use Rattle.std.specs.Prelude.{Ok}
 use mathlib.Core.Bool.{Bool, true, false, not, ◌||◌ as or, and-eq-true_iff, false≢true}
 use mathlib.Core.List.{List, [], ◌∷◌}
 use mathlib.Core.Path.{◌≡◌, refl, sym, ap}
@@ -10,7 +11,7 @@ use borrow.Author.Tests.{leb-true, le-leb, eqb-true}
 use lib.Dec.{leb, ltb}
 use lib.ListN.{length, take, drop, length-take, length-drop}
 use Rattle.format.specs.declared.IndexRecordOption.{IndexRecordOption}
-use Rattle.format.specs.Basics.{ok, last_of, TERMINATED, AllBelow}
+use Rattle.format.specs.Basics.{last_of, TERMINATED, AllBelow}
 use Rattle.format.specs.SkipEntry.{has_freq_of}
 use Rattle.format.specs.Values.{rising, countable}
 use Rattle.format.specs.Written.{image}
@@ -67,7 +68,7 @@ implied : (a b : Bool) → or (not a) b ≡ true → a ≡ true → b ≡ true
 implied true b e h = e
 implied false b e h = absurd (false≢true h)
 
-pub take_doc-ok : (option : IndexRecordOption) (least d f : ℕ) {next : ℕ} → take_doc option least d f ≡ ok next
+pub take_doc-ok : (option : IndexRecordOption) (least d f : ℕ) {next : ℕ} → take_doc option least d f ≡ Ok next
     → Taken option least d f next
 unfolding take_doc
 take_doc-ok option least d f e =
@@ -87,7 +88,7 @@ in-front {f = f} small t a =
     }
 
 take_docs-ok : (option : IndexRecordOption) (least : ℕ) (ds fs : List ℕ) {next : ℕ} → AllBelow (2 ^ 32) fs → length ds ≡ length fs
-    → take_docs option least ds fs ≡ ok next → Accepted option least ds fs
+    → take_docs option least ds fs ≡ Ok next → Accepted option least ds fs
 unfolding take_docs rising countable
 take_docs-ok option least [] [] small e t = record { rises = refl; counts = λ k. refl; as_many = refl }
 take_docs-ok option least [] (f ∷ fs) small e t = absurd (omega arith)
@@ -103,7 +104,7 @@ pub record Written (mode : ℕ) (recording : Bool) (ds fs bs : List ℕ) : Type 
   pub bytes : bs ≡ image (kept_in mode recording) ds fs
 
 pub written-ok : (mode : ℕ) (recording : Bool) (ds fs : List ℕ) {bs : List ℕ} → AllBelow (2 ^ 32) fs
-    → written mode recording ds fs ≡ ok bs → Written mode recording ds fs bs
+    → written mode recording ds fs ≡ Ok bs → Written mode recording ds fs bs
 unfolding written begin
 written-ok mode recording ds fs small e =
     let p = and_then-ok _ _ e in

@@ -1,6 +1,7 @@
 -- Bytes put into an area: where they fit they are stored one behind the other, so that putting a list is putting its parts in
 -- turn, and the area's length is kept in any case.
 -- Assumes nothing.
+use Rattle.std.specs.Prelude.{None, Some}
 use mathlib.Core.Path.{◌≡◌, sym}
 use mathlib.Core.List.{List, [], ◌∷◌, ◌++◌, append_assoc}
 use Prim.Native.Nat.{ℕ, suc, ◌+◌, ◌≤◌, ◌<◌}
@@ -11,7 +12,6 @@ use native.Mathlib.Omega.{arith}
 use lib.ListN.{length, take, drop, set, length-append, length-set}
 use lib.Seq.{sets, sets-eq, length-sets, paste, take-length, take-append_seam}
 use borrow.Author.Tests.{le-leb, lt-leb}
-use Rattle.format.specs.declared.Next.TheVariants.{At, Refused}
 use Rattle.format.specs.Basics.{choose, fits_at, put_at, next_at}
 
 -- a run of stores is the stores of its parts in turn
@@ -30,7 +30,7 @@ module _ (p : ℕ) (bs area : List ℕ) where
   unfolding put_at choose fits_at
   put_at-paste h = rw (le-leb _ _ h, take-length, append_assoc)
 
-  pub next_at-fits : p + length bs ≤ length area → next_at p bs area ≡ At (p + length bs)
+  pub next_at-fits : p + length bs ≤ length area → next_at p bs area ≡ Some (p + length bs)
   unfolding next_at choose fits_at
   next_at-fits h = rw (le-leb _ _ h)
 
@@ -39,7 +39,7 @@ module _ (p : ℕ) (bs area : List ℕ) where
   unfolding put_at choose fits_at
   put_at-refused h = rw (lt-leb _ _ h)
 
-  pub next_at-refused : length area < p + length bs → next_at p bs area ≡ Refused
+  pub next_at-refused : length area < p + length bs → next_at p bs area ≡ None
   unfolding next_at choose fits_at
   next_at-refused h = rw (lt-leb _ _ h)
 

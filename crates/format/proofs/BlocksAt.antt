@@ -2,6 +2,7 @@
 -- blocks are those of a list. What it reads from block b on, behind b entries and the bytes of b blocks, is what the whole walk
 -- reads without its first b blocks: by induction on b, since one block more is the first that is read there.
 -- Assumes nothing.
+use Rattle.std.specs.Prelude.{Ok, Err}
 use mathlib.Core.Bool.{Bool, true}
 use mathlib.Core.List.{List, [], ◌∷◌}
 use mathlib.Core.Path.{◌≡◌, refl, sym, ap, ◌∙◌}
@@ -11,29 +12,29 @@ use native.Mathlib.Omega.{arith}
 use lib.ListN.{drop, get_or}
 use lib.Seq.{drop-drop}
 use Rattle.format.specs.declared.IndexRecordOption.{IndexRecordOption}
-use Rattle.format.specs.Basics.{Outcome, ok, refused}
+use Rattle.format.specs.Basics.{Outcome}
 use Rattle.format.specs.SkipEntry.{entry_size_of, read_entry, block_size_of}
 use Rattle.format.specs.Reading.{Block, tail_block, Reading, nothing, before, read_from}
-use Rattle.format.proofs.Outcome.{Numbered}
-use Rattle.format.proofs.SoundBlock.{ReadFull, entry_block-read, tail_block-sound, entry_block-numbered, tail_block-numbered}
+use Rattle.format.proofs.Outcome.{refused≢ok}
+use Rattle.format.proofs.SoundBlock.{ReadFull, entry_block-read, tail_block-sound}
 use Rattle.format.proofs.Blocks.{Blocks, last_one, one_more, no_block, block_at, least_at}
 use Rattle.format.proofs.Opened.{walk_by, read_from-zero, read_from-suc}
 
 -- ---- a walk to the end
 
 abbrev pub through : List Block → Reading
-through bs = record { blocks = bs; refusal = 0 }
+through bs = record { blocks = bs; verdict = Ok tt }
 
-pub is-through : (r : Reading) → r.refusal ≡ 0 → r ≡ through r.blocks
-is-through r h = λ i. record { blocks = r.blocks; refusal = h i }
+pub is-through : (r : Reading) → r.verdict ≡ Ok tt → r ≡ through r.blocks
+is-through r h = λ i. record { blocks = r.blocks; verdict = h i }
 
 -- its first block, and the rest of it
-before-through : (o : Outcome Block) (rest : Bool → Reading) {bs : List Block} → Numbered o → before o rest ≡ through bs
-    → (b : Block) × (later : List Block) × (o ≡ ok b) × (rest true ≡ through later) × (bs ≡ b ∷ later)
+before-through : (o : Outcome Block) (rest : Bool → Reading) {bs : List Block} → before o rest ≡ through bs
+    → (b : Block) × (later : List Block) × (o ≡ Ok b) × (rest true ≡ through later) × (bs ≡ b ∷ later)
 unfolding before nothing
-before-through (ok b) rest k h =
-    (b, (rest true).blocks, refl, is-through (rest true) (ap (λ r. r.refusal) h), sym (ap (λ r. r.blocks) h))
-before-through (refused n) rest k h = absurd (let e : n ≡ 0 = ap (λ r. r.refusal) h in omega arith)
+before-through (Ok b) rest h =
+    (b, (rest true).blocks, refl, is-through (rest true) (ap (λ r. r.verdict) h), sym (ap (λ r. r.blocks) h))
+before-through (Err r) rest h = absurd (refused≢ok (ap (λ (w : Reading). w.verdict) h))
 
 module _ (option : IndexRecordOption) (wanted alone : Bool) (tail : ℕ) where
   -- n full blocks behind the first one
@@ -46,16 +47,16 @@ module _ (option : IndexRecordOption) (wanted alone : Bool) (tail : ℕ) where
       → read_from (walk_by option wanted alone tail) (suc n) least skips bs ≡ through all
       → (b : Block) × (later : List Block) × (all ≡ b ∷ later) × ReadFull option wanted least skips bs b × Behind n skips bs b later
   first-full n least skips bs h =
-      let p = before-through _ _ (entry_block-numbered option wanted least skips bs) (sym (read_from-suc option wanted alone tail n least skips bs) ∙ h) in
+      let p = before-through _ _ (sym (read_from-suc option wanted alone tail n least skips bs) ∙ h) in
       let r = entry_block-read option wanted least skips bs p.2 in
       (p.0, p.1, p.4, r, rw r.last_is p.3)
 
   pub only-tail : (least : ℕ) (skips bs : List ℕ) {all : List Block}
       → read_from (walk_by option wanted alone tail) zero least skips bs ≡ through all
-      → (b : Block) × (all ≡ b ∷ []) × (tail_block option wanted alone tail least bs ≡ ok b)
+      → (b : Block) × (all ≡ b ∷ []) × (tail_block option wanted alone tail least bs ≡ Ok b)
   unfolding nothing
   only-tail least skips bs h =
-      let p = before-through _ _ (tail_block-numbered option wanted alone tail least bs) (sym (read_from-zero option wanted alone tail least skips bs) ∙ h) in
+      let p = before-through _ _ (sym (read_from-zero option wanted alone tail least skips bs) ∙ h) in
       (p.0, p.4 ∙ ap (λ (r : Reading). p.0 ∷ r.blocks) (sym p.3), p.2)
 
   pub read-blocks : (n least : ℕ) (skips bs : List ℕ) {all : List Block}
@@ -111,8 +112,8 @@ module _ (option : IndexRecordOption) (wanted alone : Bool) (tail n least : ℕ)
   pub full_at : (b : ℕ) → b < n → ReadFull option wanted (least_at least all b) (skips_at option skips b) (bytes_at b) (block_at all b)
   full_at b h = (full-of b h (blocks_at b (omega arith))).0
 
-  pub tail_at : tail_block option wanted alone tail (least_at least all n) (bytes_at n) ≡ ok (block_at all n)
+  pub tail_at : tail_block option wanted alone tail (least_at least all n) (bytes_at n) ≡ Ok (block_at all n)
   tail_at =
       let none : n - n ≡ 0 = omega arith in
       let p = only-tail option wanted alone tail _ _ _ (rw none at (blocks_at n (omega arith))) in
-      p.2 ∙ ap ok (sym (drop_more all n no_block p.1).0)
+      p.2 ∙ ap Ok (sym (drop_more all n no_block p.1).0)

@@ -2,6 +2,7 @@
 -- their widths are in the limits of an entry and hold all values; the values unpack, and stand for the ids and frequencies that
 -- they were made of. What follows begins behind the entry's bytes, and behind 16 bytes for each bit of the two widths.
 -- Assumes nothing.
+use Rattle.std.specs.Prelude.{Ok}
 use mathlib.Core.Bool.{Bool, true, false, ◌&&◌ as and, and-eq-true_iff, false≢true}
 use mathlib.Core.List.{List, ◌++◌}
 use mathlib.Core.Path.{◌≡◌, refl, sym, ap, ◌∙◌}
@@ -13,7 +14,7 @@ use lib.ListN.{length, drop, length-append}
 use lib.Seq.{drop_at, drop-drop}
 use Rattle.format.specs.declared.IndexRecordOption.{IndexRecordOption}
 use Rattle.format.specs.declared.BlockInfo.{BlockInfo}
-use Rattle.format.specs.Basics.{ok, ask, and_then, last_of, TERMINATED, AllBelow}
+use Rattle.format.specs.Basics.{ask, and_then, last_of, TERMINATED, AllBelow}
 use Rattle.format.specs.Bitpacking.{pack, unpack, width}
 use Rattle.format.specs.Values.{reduced, restored}
 use Rattle.format.specs.SkipEntry.{has_freq_of, entry_size_of, read_entry, block_size_of, entry_fits_of}
@@ -107,12 +108,12 @@ module _ (option : IndexRecordOption) (least : ℕ) (ds fs : List ℕ) (a : Acce
       rw (freqs-behind, k, unpacked (reduced true fs)) (freqs-read-back true fs (a.counts k))
 
   freqs-read : (read : Bool) → (read ≡ true → has_freq_of option ≡ true)
-      → full_freqs read entry it.postings ≡ ok (read_freqs read fs)
+      → full_freqs read entry it.postings ≡ Ok (read_freqs read fs)
   unfolding read_freqs ask info_of
   freqs-read false h = full_freqs-unread entry it.postings ∙ rw (← a.as_many, full)
   freqs-read true h = rw (full_freqs-read, kept_read (h refl), a.counts (h refl))
 
-  block_read : (wanted : Bool) → entry_block option wanted least it.skips it.postings ≡ ok (block wanted)
+  block_read : (wanted : Bool) → entry_block option wanted least it.skips it.postings ≡ Ok (block wanted)
   unfolding ask and_then info_of
   block_read wanted =
       let freqs = freqs-read (and (has_freq_of option) wanted) (λ k. ((and-eq-true_iff _ _).0 k).0) in
@@ -120,6 +121,6 @@ module _ (option : IndexRecordOption) (least : ℕ) (ds fs : List ℕ) (a : Acce
 
   pub block-reads-back : (wanted alone : Bool) (tail n : ℕ)
       → read_from (walk_by option wanted alone tail) (suc n) least it.skips it.postings
-      ≡ (before (ok (block wanted)) λ _. read_from (walk_by option wanted alone tail) n (last_of 0 ds + 1) rest.skips rest.postings)
+      ≡ (before (Ok (block wanted)) λ _. read_from (walk_by option wanted alone tail) n (last_of 0 ds + 1) rest.skips rest.postings)
   unfolding info_of
   block-reads-back wanted alone tail n = rw (read_from-suc, block_read, entry_read, skips-behind, postings-behind)

@@ -1,6 +1,7 @@
 -- The layout of an image is the parts that it was put together of. Where there is a full block the skip length reads back, and
 -- whether it is 8 for each or 5 tells that frequencies were kept or not. Where there is none the recorded mode stands.
 -- Assumes nothing.
+use Rattle.std.specs.Prelude.{Ok, Some}
 use mathlib.Core.Bool.{Bool, true, false}
 use mathlib.Core.List.{List, ◌++◌}
 use mathlib.Core.Path.{◌≡◌, refl}
@@ -12,8 +13,7 @@ use lib.Dec.{leb, eqb-suc-zero}
 use lib.ListN.{length, take, drop, length-append}
 use lib.Seq.{take-append_seam, drop-append_seam, drop-append-add}
 use Rattle.format.specs.declared.IndexRecordOption.{IndexRecordOption}
-use Rattle.format.specs.declared.VInt.TheVariants.{Number}
-use Rattle.format.specs.Basics.{ok, ask, choose, last_of, TERMINATED}
+use Rattle.format.specs.Basics.{ask, choose, last_of, TERMINATED}
 use Rattle.format.specs.Vint.{vint}
 use Rattle.format.specs.SkipEntry.{entry_size_of}
 use Rattle.format.specs.Written.{Parts}
@@ -51,7 +51,7 @@ postings-alone option bs = refl
 
 module _ (t : Term) (mode_known : t.mode ≤ 1) (requested-known : t.requested ≤ 2) (few : t.count ≤ TERMINATED) where
   pub layout-alone : (bs : List ℕ) → full_blocks_of t ≡ 0
-      → layout t bs ≡ ok (record { option = kept_in t.mode true; skips = 0; postings = 0 })
+      → layout t bs ≡ Ok (record { option = kept_in t.mode true; skips = 0; postings = 0 })
   unfolding ask choose
   layout-alone bs e = rw (layout_is, known_mode_lem _ mode_known, le-leb _ _ requested-known, le-leb _ _ few, e)
 
@@ -67,7 +67,7 @@ module _ (t : Term) (mode_known : t.mode ≤ 1) (requested-known : t.requested �
 
     -- behind the bytes of the skip length
     split_parts : (front : List ℕ)
-        → split t (front ++ (p.skips ++ p.postings)) (Number (length p.skips) (length front)) ≡ ok (found (length front))
+        → split t (front ++ (p.skips ++ p.postings)) (Some (length p.skips, length front)) ≡ Ok (found (length front))
     unfolding ask
     split_parts front =
         let bs : List ℕ = front ++ (p.skips ++ p.postings) in
@@ -75,7 +75,7 @@ module _ (t : Term) (mode_known : t.mode ≤ 1) (requested-known : t.requested �
         rw (split-number, le-leb _ _ room, sized-is)
         (rw (e, l, kept_again t.mode recording n, eq-eqb (entry_size_of (kept_in t.mode recording) * suc n) _ refl))
 
-    pub layout-headed : layout t (headed (suc n) p) ≡ ok (found (length (vint (length p.skips))))
+    pub layout-headed : layout t (headed (suc n) p) ≡ Ok (found (length (vint (length p.skips))))
     unfolding ask choose
     layout-headed =
         rw (layout_is, known_mode_lem _ mode_known, le-leb _ _ requested-known, le-leb _ _ few, e, eqb-suc-zero)

@@ -3,6 +3,7 @@
 -- A number looks at the bytes that it took, byte by byte; a lane of a block of width w at w words, the last of which ends at or before
 -- byte 16 * w.
 -- Assumes nothing.
+use Rattle.std.specs.Prelude.{Ok, Option, None, Some}
 use mathlib.Core.Bool.{Bool, true, false}
 use mathlib.Core.List.{List, [], ◌∷◌}
 use mathlib.Core.Path.{◌≡◌, refl, sym, ap, ap₂, ◌∙◌}
@@ -16,9 +17,8 @@ use lib.Seq.{take-nil, take-take, get_or-take}
 use Rattle.format.specs.declared.BlockInfo.{BlockInfo}
 use Rattle.format.specs.declared.Layout.{Layout}
 use Rattle.format.specs.declared.Term.{Term}
-use Rattle.format.specs.declared.VInt.{VInt}
-use Rattle.format.specs.declared.VInt.TheVariants.{Number, Malformed}
-use Rattle.format.specs.Basics.{Outcome, ok, choose, ask, word}
+use Rattle.format.specs.declared.refusal.Refusal.{Refusal}
+use Rattle.format.specs.Basics.{Outcome, choose, ask, word}
 use Rattle.format.specs.Bitpacking.{lane_at, unpacked_at, unpack}
 use Rattle.format.specs.Layout.{full_blocks_of, split, layout, skip_bytes_of}
 use Rattle.format.specs.Reading.{full_docs, full_freqs, full_block}
@@ -88,12 +88,12 @@ module _ (e : BlockInfo) (bs bs' : List ℕ) (same : take (block_size_of e) bs �
 -- ---- the skip length
 
 -- a number read of bs is read of all bytes that begin with those that it took
-abbrev Fixed : ℕ → List ℕ → VInt → Type 0
-Fixed most bs Malformed = Unit {0}
-Fixed most bs (Number value used) = (bs' : List ℕ) → take used bs ≡ take used bs' → read_f most bs' ≡ Number value used
+abbrev Fixed : ℕ → List ℕ → Option (ℕ × ℕ) → Type 0
+Fixed most bs None = Unit {0}
+Fixed most bs (Some (value, used)) = (bs' : List ℕ) → take used bs ≡ take used bs' → read_f most bs' ≡ Some (value, used)
 
 -- its last byte
-fixed_last : (most b : ℕ) (bs : List ℕ) → ltb b 128 ≡ false → Fixed (suc most) (b ∷ bs) (Number (b - 128) 1)
+fixed_last : (most b : ℕ) (bs : List ℕ) → ltb b 128 ≡ false → Fixed (suc most) (b ∷ bs) (Some (b - 128, 1))
 unfolding read_f choose
 fixed_last most b bs t [] same = cc
 fixed_last most b bs t (b' ∷ bs') same =
@@ -101,8 +101,8 @@ fixed_last most b bs t (b' ∷ bs') same =
     rw (first, t)
 
 -- .. and one before it
-more-read : (most b value used : ℕ) (bs bs' : List ℕ) → ltb b 128 ≡ true → Fixed most bs (Number value used)
-    → take (suc used) (b ∷ bs) ≡ take (suc used) bs' → read_f (suc most) bs' ≡ Number (b + 128 * value) (1 + used)
+more-read : (most b value used : ℕ) (bs bs' : List ℕ) → ltb b 128 ≡ true → Fixed most bs (Some (value, used))
+    → take (suc used) (b ∷ bs) ≡ take (suc used) bs' → read_f (suc most) bs' ≡ Some (b + 128 * value, 1 + used)
 unfolding read_f choose onward
 more-read most b value used bs [] t h same = cc
 more-read most b value used bs (b' ∷ bs') t h same =
@@ -110,10 +110,10 @@ more-read most b value used bs (b' ∷ bs') t h same =
     let rest : take used bs ≡ take used bs' = cc in
     rw (first, t, h bs' rest)
 
-fixed_more : (most b : ℕ) (bs : List ℕ) (r : VInt) → ltb b 128 ≡ true → Fixed most bs r → Fixed (suc most) (b ∷ bs) (onward b r)
+fixed_more : (most b : ℕ) (bs : List ℕ) (r : Option (ℕ × ℕ)) → ltb b 128 ≡ true → Fixed most bs r → Fixed (suc most) (b ∷ bs) (onward b r)
 unfolding onward
-fixed_more most b bs Malformed t h = tt
-fixed_more most b bs (Number value used) t h = λ bs' same. more-read most b value used bs bs' t h (rw one-add at same)
+fixed_more most b bs None t h = tt
+fixed_more most b bs (Some (value, used)) t h = λ bs' same. more-read most b value used bs bs' t h (rw one-add at same)
 
 fixed : (most : ℕ) (bs : List ℕ) → Fixed most bs (read_f most bs)
 unfolding read_f
@@ -125,14 +125,14 @@ fixed (suc most) (b ∷ bs) =
     (λ t. fixed_last most b bs t)
 
 -- a number below a limit is that number
-below-is : (limit : ℕ) (r : VInt) {value used : ℕ} → below limit r ≡ Number value used → r ≡ Number value used
+below-is : (limit : ℕ) (r : Option (ℕ × ℕ)) {value used : ℕ} → below limit r ≡ Some (value, used) → r ≡ Some (value, used)
 unfolding below
-below-is limit Malformed e = cc
-below-is limit (Number v u) {value} {used} e =
-    choose_elim (λ (r : VInt). r ≡ Number value used → Number v u ≡ Number value used) (ltb v limit) _ _ (λ _ same. same) (λ _ none. cc) e
+below-is limit None e = cc
+below-is limit (Some (v, u)) {value} {used} e =
+    choose_elim (λ (r : Option (ℕ × ℕ)). r ≡ Some (value, used) → ◌≡◌ {A = Option (ℕ × ℕ)} (Some (v, u)) (Some (value, used))) (ltb v limit) _ _ (λ _ same. same) (λ _ none. cc) e
 
-same_number : (most limit : ℕ) (bs bs' : List ℕ) {value used : ℕ} → read_vint_of most limit bs ≡ Number value used
-    → take used bs ≡ take used bs' → read_vint_of most limit bs' ≡ Number value used
+same_number : (most limit : ℕ) (bs bs' : List ℕ) {value used : ℕ} → read_vint_of most limit bs ≡ Some (value, used)
+    → take used bs ≡ take used bs' → read_vint_of most limit bs' ≡ Some (value, used)
 unfolding read_vint_of
 same_number most limit bs bs' e same =
     let read = below-is limit (read_f most bs) e in
@@ -140,11 +140,11 @@ same_number most limit bs bs' e same =
 
 -- ---- the layout
 
-same-split : (t : Term) (bs bs' : List ℕ) (v : VInt) {l : Layout} → length bs ≡ length bs' → skip_length bs ≡ v → split t bs v ≡ ok l
-    → take l.postings bs ≡ take l.postings bs' → split t bs' (skip_length bs') ≡ ok l
+same-split : (t : Term) (bs bs' : List ℕ) (v : Option (ℕ × ℕ)) {l : Layout} → length bs ≡ length bs' → skip_length bs ≡ v → split t bs v ≡ Ok l
+    → take l.postings bs ≡ take l.postings bs' → split t bs' (skip_length bs') ≡ Ok l
 unfolding skip_length
-same-split t bs bs' Malformed long e h same = absurd (refused≢ok (sym (split-malformed t bs) ∙ h))
-same-split t bs bs' (Number size used) {l} long e h same =
+same-split t bs bs' None long e h same = absurd (refused≢ok (sym (split-malformed t bs) ∙ h))
+same-split t bs bs' (Some (size, used)) {l} long e h same =
     let p = ask-ok _ _ _ (sym (split-number t bs size used) ∙ h) in
     let q = ask-ok _ _ _ (sym (sized-is t size used) ∙ p.1) in
     let places : l.postings ≡ used + size = ap (λ (k : Layout). k.postings) (sym (ok_same q.1)) in
@@ -152,20 +152,20 @@ same-split t bs bs' (Number size used) {l} long e h same =
     rw (read, split-number, ← long) (sym (split-number t bs size used) ∙ h)
 
 -- a question that was answered yes is so again
-ask-again : {A : Type 0} (t : Bool) (n : ℕ) (go go' : Bool → Outcome A) {a : A} → (go true ≡ ok a → go' true ≡ ok a)
-    → ask t n go ≡ ok a → ask t n go' ≡ ok a
+ask-again : {A : Type 0} (t : Bool) (r : Refusal) (go go' : Bool → Outcome A) {a : A} → (go true ≡ Ok a → go' true ≡ Ok a)
+    → ask t r go ≡ Ok a → ask t r go' ≡ Ok a
 unfolding ask
-ask-again true n go go' f e = f e
-ask-again false n go go' f e = absurd (refused≢ok e)
+ask-again true r go go' f e = f e
+ask-again false r go go' f e = absurd (refused≢ok e)
 
 module _ (t : Term) (l : Layout) (bs bs' : List ℕ) (long : length bs ≡ length bs') (same : take l.postings bs ≡ take l.postings bs') where
-  same_parts : (none : Bool) (alone : Outcome Layout) → choose none (λ _. alone) (λ _. split t bs (skip_length bs)) ≡ ok l
-      → choose none (λ _. alone) (λ _. split t bs' (skip_length bs')) ≡ ok l
+  same_parts : (none : Bool) (alone : Outcome Layout) → choose none (λ _. alone) (λ _. split t bs (skip_length bs)) ≡ Ok l
+      → choose none (λ _. alone) (λ _. split t bs' (skip_length bs')) ≡ Ok l
   unfolding choose
   same_parts true alone h = h
   same_parts false alone h = same-split t bs bs' (skip_length bs) long refl h same
 
-  pub same_layout : layout t bs ≡ ok l → layout t bs' ≡ ok l
+  pub same_layout : layout t bs ≡ Ok l → layout t bs' ≡ Ok l
   same_layout h =
       layout_is t bs'
       ∙ ask-again _ _ _ _ (ask-again _ _ _ _ (same_parts (eqb (full_blocks_of t) 0) _)) (sym (layout_is t bs) ∙ h)

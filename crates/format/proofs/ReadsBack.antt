@@ -3,6 +3,7 @@
 -- goes block after block, by their number: the entry and the bytes of a full block read back, and what follows them is the image
 -- of the documents that follow; at the end the tail reads back.
 -- Assumes nothing.
+use Rattle.std.specs.Prelude.{Ok}
 use mathlib.Core.Bool.{Bool, true, ◌&&◌ as and}
 use mathlib.Core.List.{List, [], ◌++◌, append-nil}
 use mathlib.Core.Path.{◌≡◌, refl, ap, ◌∙◌}
@@ -11,7 +12,7 @@ use native.Mathlib.Omega.{arith}
 use lib.Dec.{ltb}
 use lib.ListN.{length, take, take-append-drop, length-take, length-drop}
 use Rattle.format.specs.declared.IndexRecordOption.{IndexRecordOption}
-use Rattle.format.specs.Basics.{ok, AllBelow}
+use Rattle.format.specs.Basics.{AllBelow}
 use Rattle.format.specs.SkipEntry.{has_freq_of, entry_size_of}
 use Rattle.format.specs.Written.{Parts}
 use Rattle.format.specs.Accepted.{kept_in, written, Accepted}
@@ -27,12 +28,12 @@ use Rattle.format.proofs.FullBlock.{block-reads-back}
 use Rattle.format.proofs.Tail.{Finds, finds_own, finds_kept, tail-reads-back}
 use Rattle.format.proofs.ImageLayout.{skips-length, layout-alone, layout-headed, postings-alone, skips-found, postings-found}
 
-at-end : ReadsBack [] [] (nothing 0)
+at-end : ReadsBack [] [] (nothing (Ok tt))
 unfolding nothing docs_of freqs_of
 at-end = record { sound = refl; docs = refl; freqs = refl }
 
 in-front : {ds fs ds' fs' : List ℕ} (b : Block) (rest : Bool → Reading) → b.docs ++ ds' ≡ ds → b.freqs ++ fs' ≡ fs
-    → ReadsBack ds' fs' (rest true) → ReadsBack ds fs (before (ok b) rest)
+    → ReadsBack ds' fs' (rest true) → ReadsBack ds fs (before (Ok b) rest)
 unfolding before docs_of freqs_of
 in-front b rest d f r =
     record { sound = r.sound; docs = ap (λ l. b.docs ++ l) r.docs ∙ d; freqs = ap (λ l. b.freqs ++ l) r.freqs ∙ f }
@@ -82,7 +83,7 @@ module _ (mode requested : ℕ) (recording : Bool) (ds fs : List ℕ) (mode_know
 
 -- the frequencies read are the list's where they are kept (mode 1, recording) and requested (mode 1 or 2), else a 1 for each
 pub reads-back : (mode requested : ℕ) (recording : Bool) (ds fs : List ℕ) {bs : List ℕ} → requested ≤ 2 → AllBelow (2 ^ 32) fs
-    → written mode recording ds fs ≡ ok bs
+    → written mode recording ds fs ≡ Ok bs
     → ReadsBack ds (read_freqs (and (has_freq_of (kept_in mode recording)) (ltb 0 requested)) fs)
     (reading (record { mode = mode; requested = requested; count = length ds }) bs)
 unfolding full_blocks_of
@@ -92,6 +93,6 @@ reads-back mode requested recording ds fs known small e =
     (walk-image mode requested recording ds fs w.mode_known known w.accepted (length ds / 128) refl)
 
 pub written-sound : (mode : ℕ) (recording : Bool) (ds fs : List ℕ) {bs : List ℕ} → AllBelow (2 ^ 32) fs
-    → written mode recording ds fs ≡ ok bs → soundness mode (length ds) bs ≡ 0
+    → written mode recording ds fs ≡ Ok bs → soundness mode (length ds) bs ≡ Ok tt
 written-sound mode recording ds fs small e =
     soundness-is mode (length ds) _ ∙ (reads-back mode 1 recording ds fs (omega arith) small e).sound

@@ -2,6 +2,7 @@
 -- whose questions were answered yes none is asked that could be refused, and its documents and last id are the same. The layout goes
 -- by the recorded mode and the count alone.
 -- Assumes nothing.
+use Rattle.std.specs.Prelude.{Ok, Option, None, Some}
 use mathlib.Core.Bool.{Bool, true, false, and-false}
 use mathlib.Core.List.{List, [], ◌∷◌}
 use mathlib.Core.Path.{◌≡◌, refl, sym, ap, ◌∙◌}
@@ -12,10 +13,7 @@ use lib.ListN.{drop, replicate}
 use Rattle.format.specs.declared.IndexRecordOption.{IndexRecordOption}
 use Rattle.format.specs.declared.BlockInfo.{BlockInfo}
 use Rattle.format.specs.declared.Term.{Term}
-use Rattle.format.specs.declared.VInt.{VInt}
-use Rattle.format.specs.declared.VInt.TheVariants.{Number, Malformed}
 use Rattle.format.specs.Vint.{skip_length}
-use Rattle.format.specs.Basics.{ok}
 use Rattle.format.specs.Layout.{full_blocks_of, tail_length, split, layout}
 use Rattle.format.specs.SkipEntry.{entry_size_of, read_entry, block_size_of}
 use Rattle.format.specs.Reading.{Block, full_block, entry_block, tail_freqs, tail_block, nothing, before, read_from}
@@ -32,30 +30,30 @@ use Rattle.format.proofs.Opened.{read_from-zero, read_from-suc, layout_is, read_
 abbrev unread : ℕ → Block → Block
 unread n b = record { docs = b.docs; freqs = replicate n 1; last = b.last }
 
-full-unread : (read : Bool) (least : ℕ) (e : BlockInfo) (bs : List ℕ) {b : Block} → full_block read least e bs ≡ ok b
-    → full_block false least e bs ≡ ok (unread 128 b)
+full-unread : (read : Bool) (least : ℕ) (e : BlockInfo) (bs : List ℕ) {b : Block} → full_block read least e bs ≡ Ok b
+    → full_block false least e bs ≡ Ok (unread 128 b)
 full-unread read least e bs h =
     let p = ask-ok _ _ _ (sym (full_block-is read least e bs) ∙ h) in
     let f = and_then-ok _ _ p.1 in
     full_block-is false least e bs
     ∙ ask-yes _ _ _ p.0
     ∙ and_then-goes _ _ (full_freqs-unread e bs)
-    ∙ ap (λ (b : Block). ok (unread 128 b)) (ok_same f.2)
+    ∙ ap (λ (b : Block). Ok (unread 128 b)) (ok_same f.2)
 
 entry-unread : (option : IndexRecordOption) (least : ℕ) (skips bs : List ℕ) {b : Block} → ReadFull option true least skips bs b
-    → entry_block option false least skips bs ≡ ok (unread 128 b)
+    → entry_block option false least skips bs ≡ Ok (unread 128 b)
 entry-unread option least skips bs r =
     entry_block-is option false least skips bs ∙ ask-yes _ _ _ r.fits ∙ rw and-false (full-unread _ least _ bs r.read)
 
-freqs-unread : (has : Bool) (n : ℕ) (bs : List ℕ) {fs : List ℕ} → tail_freqs has true n bs ≡ ok fs
-    → tail_freqs has false n bs ≡ ok (replicate n 1)
+freqs-unread : (has : Bool) (n : ℕ) (bs : List ℕ) {fs : List ℕ} → tail_freqs has true n bs ≡ Ok fs
+    → tail_freqs has false n bs ≡ Ok (replicate n 1)
 freqs-unread false n bs h =
     let p = sym (tail_freqs-none true n bs) ∙ h in
-    tail_freqs-none false n bs ∙ p ∙ ap ok (sym (ended_same _ bs p))
+    tail_freqs-none false n bs ∙ p ∙ ap Ok (sym (ended_same _ bs p))
 freqs-unread true n bs h = tail_freqs-unread n bs
 
 tail-unread : (option : IndexRecordOption) (alone : Bool) (n least : ℕ) (bs : List ℕ) {b : Block}
-    → tail_block option true alone n least bs ≡ ok b → tail_block option false alone n least bs ≡ ok (unread n b)
+    → tail_block option true alone n least bs ≡ Ok b → tail_block option false alone n least bs ≡ Ok (unread n b)
 tail-unread option alone n least bs h =
     let p = and_then-ok _ _ (sym (tail_block-is option true alone n least bs) ∙ h) in
     let q = ask-ok _ _ _ p.2 in
@@ -64,7 +62,7 @@ tail-unread option alone n least bs h =
     ∙ and_then-goes _ _ p.1
     ∙ ask-yes _ _ _ q.0
     ∙ and_then-goes _ _ (freqs-unread _ n _ f.1)
-    ∙ ap (λ (b : Block). ok (unread n b)) (ok_same f.2)
+    ∙ ap (λ (b : Block). Ok (unread n b)) (ok_same f.2)
 
 -- ---- the walk
 
@@ -100,14 +98,14 @@ module _ (option : IndexRecordOption) (alone : Bool) (tail : ℕ) where
 
 -- ---- the image
 
-module _ (mode requested count : ℕ) (bs : List ℕ) (known : requested ≤ 2) (sound : soundness mode count bs ≡ 0) where
+module _ (mode requested count : ℕ) (bs : List ℕ) (known : requested ≤ 2) (sound : soundness mode count bs ≡ Ok tt) where
   abbrev term : ℕ → Term
   term requested = record { mode = mode; requested = requested; count = count }
 
-  same-split : (v : VInt) → split (term requested) bs v ≡ split (term 1) bs v
+  same-split : (v : Option (ℕ × ℕ)) → split (term requested) bs v ≡ split (term 1) bs v
   unfolding split
-  same-split Malformed = refl
-  same-split (Number size used) = refl
+  same-split None = refl
+  same-split (Some (size, used)) = refl
 
   same_layout : layout (term requested) bs ≡ layout (term 1) bs
   unfolding full_blocks_of
@@ -122,8 +120,8 @@ module _ (mode requested count : ℕ) (bs : List ℕ) (known : requested ≤ 2) 
       let laid = ap (read_all (term requested) bs) (same_layout ∙ s.found) in
       (p.0, reading-is (term requested) bs ∙ laid ∙ read_all-ok (term requested) bs s.laid ∙ p.1, p.2)
 
-  pub sound_requested : (reading (term requested) bs).refusal ≡ 0
-  sound_requested = ap (λ r. r.refusal) walk.1
+  pub sound_requested : (reading (term requested) bs).verdict ≡ Ok tt
+  sound_requested = ap (λ r. r.verdict) walk.1
 
   pub same-docs : docs_of (reading (term requested) bs).blocks ≡ docs_of (reading (term 1) bs).blocks
   same-docs = ap (λ (r : Reading). docs_of r.blocks) walk.1 ∙ walk.2

@@ -2,6 +2,7 @@
 -- documents as the count says. No refusal carries the number 0, so a walk that ends with it was not refused, neither by the layout
 -- nor later.
 -- Assumes nothing.
+use Rattle.std.specs.Prelude.{Ok, Err, Option, None, Some}
 use mathlib.Core.List.{List}
 use mathlib.Core.Path.{◌≡◌, refl, sym, ap, ◌∙◌}
 use Prim.Native.Nat.{ℕ, ◌+◌, ◌-◌, ◌*◌, ◌^◌, ◌≤◌, ◌<◌}
@@ -11,14 +12,12 @@ use lib.Dec.{eqb}
 use lib.ListN.{length}
 use Rattle.format.specs.declared.Layout.{Layout}
 use Rattle.format.specs.declared.Term.{Term}
-use Rattle.format.specs.declared.VInt.{VInt}
-use Rattle.format.specs.declared.VInt.TheVariants.{Number, Malformed}
-use Rattle.format.specs.Basics.{Outcome, ok, refused}
+use Rattle.format.specs.Basics.{Outcome}
 use Rattle.format.specs.Vint.{skip_length}
 use Rattle.format.specs.Layout.{full_blocks_of, tail_length, split, layout, skip_bytes_of, posting_bytes_of}
 use Rattle.format.specs.Reading.{nothing, walk_of, read_from, read_all, reading}
 use Rattle.format.proofs.Choice.{choose_elim}
-use Rattle.format.proofs.Outcome.{refused≢ok, ok_same, ask-ok, Numbered, ask-numbered}
+use Rattle.format.proofs.Outcome.{refused≢ok, ok_same, ask-ok}
 use Rattle.format.proofs.Vints.{Read, read-used}
 use Rattle.format.proofs.Blocks.{Blocks}
 use Rattle.format.proofs.BlocksAt.{through, is-through, read-blocks}
@@ -26,33 +25,21 @@ use Rattle.format.proofs.Opened.{sized-is, split-number, split-malformed, layout
 
 -- ---- the layout
 
-split-numbered : (t : Term) (bs : List ℕ) (v : VInt) → Numbered (split t bs v)
-split-numbered t bs Malformed = rw split-malformed (omega arith)
-split-numbered t bs (Number size used) =
-    rw (split-number, sized-is) (ask-numbered _ _ _ (omega arith) (ask-numbered _ _ _ (omega arith) tt))
-
-pub layout-numbered : (t : Term) (bs : List ℕ) → Numbered (layout t bs)
-layout-numbered t bs =
-    rw layout_is
-    (ask-numbered _ _ _ (omega arith)
-    (ask-numbered _ _ _ (omega arith)
-    (choose_elim Numbered (eqb (full_blocks_of t) 0) _ _ (λ _. tt) (λ _. split-numbered t bs (skip_length bs)))))
-
 -- the posting bytes begin inside the image
-split-inside : (t : Term) (bs : List ℕ) (v : VInt) {l : Layout} → skip_length bs ≡ v → split t bs v ≡ ok l → l.postings ≤ length bs
+split-inside : (t : Term) (bs : List ℕ) (v : Option (ℕ × ℕ)) {l : Layout} → skip_length bs ≡ v → split t bs v ≡ Ok l → l.postings ≤ length bs
 unfolding skip_length
-split-inside t bs Malformed e h = absurd (refused≢ok (sym (split-malformed t bs) ∙ h))
-split-inside t bs (Number size used) e h =
+split-inside t bs None e h = absurd (refused≢ok (sym (split-malformed t bs) ∙ h))
+split-inside t bs (Some (size, used)) e h =
     let p = ask-ok _ _ _ (sym (split-number t bs size used) ∙ h) in
     let q = ask-ok _ _ _ (sym (sized-is t size used) ∙ p.1) in
     let r : Read 10 (2 ^ 64) bs size used = read-used 10 (2 ^ 64) bs e in
     rw (← ok_same q.1) (omega (arith, leb-true size (length bs - used) p.0, r.used_length))
 
-pub layout-inside : (t : Term) (bs : List ℕ) {l : Layout} → layout t bs ≡ ok l → l.postings ≤ length bs
+pub layout-inside : (t : Term) (bs : List ℕ) {l : Layout} → layout t bs ≡ Ok l → l.postings ≤ length bs
 layout-inside t bs {l} h =
     let p = ask-ok _ _ _ (sym (layout_is t bs) ∙ h) in
     let q = ask-ok _ _ _ p.1 in
-    choose_elim (λ (o : Outcome Layout). o ≡ ok l → l.postings ≤ length bs) (eqb (full_blocks_of t) 0) _ _
+    choose_elim (λ (o : Outcome Layout). o ≡ Ok l → l.postings ≤ length bs) (eqb (full_blocks_of t) 0) _ _
     (λ _ e. omega (arith, ap (λ k. k.postings) (ok_same e)))
     (λ _ e. split-inside t bs (skip_length bs) refl e)
     q.1
@@ -61,19 +48,19 @@ layout-inside t bs {l} h =
 
 pub record Sound (t : Term) (bs : List ℕ) : Type 0 where
   pub laid : Layout
-  pub found : layout t bs ≡ ok laid
+  pub found : layout t bs ≡ Ok laid
   pub inside : laid.postings ≤ length bs
   pub walk : read_from (walk_of t laid) (full_blocks_of t) 0
       (skip_bytes_of laid bs) (posting_bytes_of laid bs) ≡ through (reading t bs).blocks
 
-laid_out : (t : Term) (bs : List ℕ) (o : Outcome Layout) → Numbered o → (read_all t bs o).refusal ≡ 0 → (l : Layout) × (o ≡ ok l)
+laid_out : (t : Term) (bs : List ℕ) (o : Outcome Layout) → (read_all t bs o).verdict ≡ Ok tt → (l : Layout) × (o ≡ Ok l)
 unfolding read_all nothing
-laid_out t bs (ok l) k h = (l, refl)
-laid_out t bs (refused n) k h = absurd (omega arith)
+laid_out t bs (Ok l) h = (l, refl)
+laid_out t bs (Err r) h = absurd (refused≢ok h)
 
-pub sound-image : (t : Term) (bs : List ℕ) → (reading t bs).refusal ≡ 0 → Sound t bs
+pub sound-image : (t : Term) (bs : List ℕ) → (reading t bs).verdict ≡ Ok tt → Sound t bs
 sound-image t bs h =
-    let p = laid_out t bs (layout t bs) (layout-numbered t bs) (ap (λ r. r.refusal) (sym (reading-is t bs)) ∙ h) in
+    let p = laid_out t bs (layout t bs) (ap (λ r. r.verdict) (sym (reading-is t bs)) ∙ h) in
     let whole = reading-is t bs ∙ ap (read_all t bs) p.1 ∙ read_all-ok t bs p.0 in
     record { laid = p.0; found = p.1; inside = layout-inside t bs p.1; walk = sym whole ∙ is-through (reading t bs) h }
 

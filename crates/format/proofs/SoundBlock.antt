@@ -3,21 +3,21 @@
 -- are unpacked 128 at a time or read to the number wanted, and no step changes how many they are. A refusal carries a number
 -- that is not 0.
 -- Assumes nothing.
+use Rattle.std.specs.Prelude.{Ok}
 use mathlib.Core.Bool.{Bool, true, false, ◌&&◌ as and, and-eq-true_iff}
 use mathlib.Core.List.{List}
 use mathlib.Core.Path.{◌≡◌, refl, sym, ◌∙◌}
 use Prim.Native.Nat.{ℕ, zero, suc}
-use native.Mathlib.Omega.{arith}
 use borrow.Author.Tests.{eqb-true}
 use lib.ListN.{length, replicate, length-replicate}
 use Rattle.format.specs.declared.IndexRecordOption.{IndexRecordOption}
 use Rattle.format.specs.declared.BlockInfo.{BlockInfo}
-use Rattle.format.specs.Basics.{ok, last_of, TERMINATED}
+use Rattle.format.specs.Basics.{last_of, TERMINATED}
 use Rattle.format.specs.Values.{rising, countable}
 use Rattle.format.specs.Vint.{Numbers}
 use Rattle.format.specs.SkipEntry.{has_freq_of, read_entry, entry_fits_of}
 use Rattle.format.specs.Reading.{Block, full_freqs, full_block, entry_block, numbers, ended, tail_freqs, tail_block}
-use Rattle.format.proofs.Outcome.{ok_same, ask-ok, and_then-ok, Numbered, ask-numbered, and_then-numbered}
+use Rattle.format.proofs.Outcome.{ok_same, ask-ok, and_then-ok}
 use Rattle.format.proofs.Bitpacking.{unpack-length}
 use Rattle.format.proofs.Values.{length_ids, length-restored}
 use Rattle.format.proofs.Vints.{numbers-used}
@@ -54,7 +54,7 @@ record Counted (size : ℕ) (fs : List ℕ) : Type 0 where
 ones-counted : (n : ℕ) → Counted n (replicate n 1)
 ones-counted n = record { many = length-replicate n 1; count = ones-countable n }
 
-full_freqs-counted : (read : Bool) (e : BlockInfo) (bs : List ℕ) {fs : List ℕ} → full_freqs read e bs ≡ ok fs → Counted 128 fs
+full_freqs-counted : (read : Bool) (e : BlockInfo) (bs : List ℕ) {fs : List ℕ} → full_freqs read e bs ≡ Ok fs → Counted 128 fs
 full_freqs-counted false e bs h =
     rw (ok_same (sym (full_freqs-unread e bs) ∙ h)) at (ones-counted 128)
 full_freqs-counted true e bs h =
@@ -62,7 +62,7 @@ full_freqs-counted true e bs h =
     let same = ok_same p.1 in
     record { many = rw (← same, length-restored) (unpack-length _ _); count = rw (← same) p.0 }
 
-pub full_block-sound : (read : Bool) (least : ℕ) (e : BlockInfo) (bs : List ℕ) {b : Block} → full_block read least e bs ≡ ok b
+pub full_block-sound : (read : Bool) (least : ℕ) (e : BlockInfo) (bs : List ℕ) {b : Block} → full_block read least e bs ≡ Ok b
     → SoundFull least b × (b.last ≡ e.last_doc)
 full_block-sound read least e bs h =
     let p = ask-ok _ _ _ (sym (full_block-is read least e bs) ∙ h) in
@@ -85,26 +85,26 @@ full_block-sound read least e bs h =
 -- a full block that was read: question 5 of its entry, then 6 and 7
 pub record ReadFull (option : IndexRecordOption) (wanted : Bool) (least : ℕ) (skips bs : List ℕ) (b : Block) : Type 0 where
   pub fits : entry_fits_of least (length bs) (read_entry option skips) ≡ true
-  pub read : full_block (and (has_freq_of option) wanted) least (read_entry option skips) bs ≡ ok b
+  pub read : full_block (and (has_freq_of option) wanted) least (read_entry option skips) bs ≡ Ok b
   pub sound : SoundFull least b
   pub last_is : b.last ≡ (read_entry option skips).last_doc
 
 pub entry_block-read : (option : IndexRecordOption) (wanted : Bool) (least : ℕ) (skips bs : List ℕ) {b : Block}
-    → entry_block option wanted least skips bs ≡ ok b → ReadFull option wanted least skips bs b
+    → entry_block option wanted least skips bs ≡ Ok b → ReadFull option wanted least skips bs b
 entry_block-read option wanted least skips bs h =
     let p = ask-ok _ _ _ (sym (entry_block-is option wanted least skips bs) ∙ h) in
     let s = full_block-sound _ _ _ _ p.1 in
     record { fits = p.0; read = p.1; sound = s.0; last_is = s.1 }
 
-pub ended_same : (fs rest : List ℕ) {fs' : List ℕ} → ended fs rest ≡ ok fs' → fs ≡ fs'
+pub ended_same : (fs rest : List ℕ) {fs' : List ℕ} → ended fs rest ≡ Ok fs' → fs ≡ fs'
 ended_same fs rest h = ok_same (ask-ok _ _ _ (sym (ended_is fs rest) ∙ h)).1
 
-numbers-many : (n : ℕ) (bs : List ℕ) {ns : Numbers} → numbers n bs ≡ ok ns → length ns.values ≡ n
+numbers-many : (n : ℕ) (bs : List ℕ) {ns : Numbers} → numbers n bs ≡ Ok ns → length ns.values ≡ n
 numbers-many n bs h =
     let p = ask-ok _ _ _ (sym (numbers-is n bs) ∙ h) in
     rw (← ok_same p.1) ((numbers-used n bs).complete_length p.0)
 
-tail_freqs-counted : (has wanted : Bool) (n : ℕ) (bs : List ℕ) {fs : List ℕ} → tail_freqs has wanted n bs ≡ ok fs → Counted n fs
+tail_freqs-counted : (has wanted : Bool) (n : ℕ) (bs : List ℕ) {fs : List ℕ} → tail_freqs has wanted n bs ≡ Ok fs → Counted n fs
 tail_freqs-counted false wanted n bs h =
     rw (ended_same _ bs (sym (tail_freqs-none wanted n bs) ∙ h)) at (ones-counted n)
 tail_freqs-counted true false n bs h = rw (ok_same (sym (tail_freqs-unread n bs) ∙ h)) at (ones-counted n)
@@ -114,7 +114,7 @@ tail_freqs-counted true true n bs h =
     rw (← ended_same _ _ q.1) (record { many = numbers-many n bs p.1; count = q.0 })
 
 pub tail_block-sound : (option : IndexRecordOption) (wanted alone : Bool) (n least : ℕ) (bs : List ℕ) {b : Block}
-    → tail_block option wanted alone n least bs ≡ ok b → SoundTail n least b
+    → tail_block option wanted alone n least bs ≡ Ok b → SoundTail n least b
 tail_block-sound option wanted alone n least bs h =
     let p = and_then-ok _ _ (sym (tail_block-is option wanted alone n least bs) ∙ h) in
     let q = ask-ok _ _ _ p.2 in
@@ -130,37 +130,3 @@ tail_block-sound option wanted alone n least bs h =
       };
       ends = refl;
     })
-
--- ---- refusals
-
-full_freqs-numbered : (read : Bool) (e : BlockInfo) (bs : List ℕ) → Numbered (full_freqs read e bs)
-full_freqs-numbered false e bs = rw full_freqs-unread tt
-full_freqs-numbered true e bs = rw full_freqs-read (ask-numbered _ _ _ (omega arith) tt)
-
-pub entry_block-numbered : (option : IndexRecordOption) (wanted : Bool) (least : ℕ) (skips bs : List ℕ)
-    → Numbered (entry_block option wanted least skips bs)
-entry_block-numbered option wanted least skips bs =
-    rw (entry_block-is, full_block-is)
-    (ask-numbered _ _ _ (omega arith)
-    (ask-numbered _ _ _ (omega arith)
-    (and_then-numbered _ _ (full_freqs-numbered _ _ bs) (λ _. tt))))
-
-numbers-numbered : (n : ℕ) (bs : List ℕ) → Numbered (numbers n bs)
-numbers-numbered n bs = rw numbers-is (ask-numbered _ _ _ (omega arith) tt)
-
-ended-numbered : (fs bs : List ℕ) → Numbered (ended fs bs)
-ended-numbered fs bs = rw ended_is (ask-numbered _ _ _ (omega arith) tt)
-
-tail_freqs-numbered : (has wanted : Bool) (n : ℕ) (bs : List ℕ) → Numbered (tail_freqs has wanted n bs)
-tail_freqs-numbered false wanted n bs = rw tail_freqs-none (ended-numbered _ bs)
-tail_freqs-numbered true false n bs = rw tail_freqs-unread tt
-tail_freqs-numbered true true n bs =
-    rw tail_freqs-read
-    (and_then-numbered _ _ (numbers-numbered n bs) (λ ns. ask-numbered _ _ _ (omega arith) (ended-numbered _ _)))
-
-pub tail_block-numbered : (option : IndexRecordOption) (wanted alone : Bool) (n least : ℕ) (bs : List ℕ)
-    → Numbered (tail_block option wanted alone n least bs)
-tail_block-numbered option wanted alone n least bs =
-    rw tail_block-is
-    (and_then-numbered _ _ (numbers-numbered n bs)
-    (λ ns. ask-numbered _ _ _ (omega arith) (and_then-numbered _ _ (tail_freqs-numbered _ wanted n _) (λ _. tt))))

@@ -1,6 +1,7 @@
 -- A tail reads back. Its numbers are gaps and frequencies below 2 ^ 32, the ones behind the others, and nothing follows them.
 -- Where frequencies are not kept, or there is no document, none are read.
 -- Assumes nothing.
+use Rattle.std.specs.Prelude.{Ok}
 use mathlib.Core.Bool.{Bool, true, false, not, ◌&&◌ as and, and-false}
 use mathlib.Core.List.{List, [], ◌∷◌, ◌++◌, append-nil}
 use mathlib.Core.Path.{◌≡◌, refl, sym, ap, ◌∙◌}
@@ -13,7 +14,7 @@ use lib.ListN.{length, length-append}
 use lib.Seq.{drop-append_seam, drop-length}
 use Rattle.format.specs.declared.IndexRecordOption.{IndexRecordOption}
 use Rattle.format.specs.declared.IndexRecordOption.TheVariants.{Basic, WithFreqs}
-use Rattle.format.specs.Basics.{ok, ask, and_then, TERMINATED, AllBelow}
+use Rattle.format.specs.Basics.{ask, and_then, TERMINATED, AllBelow}
 use Rattle.format.specs.Vint.{vint, vints}
 use Rattle.format.specs.Values.{gaps, rising, countable}
 use Rattle.format.specs.SkipEntry.{has_freq_of}
@@ -27,18 +28,18 @@ use Rattle.format.proofs.Values.{length-gaps, gaps-read-back, gaps-below, counta
 use Rattle.format.proofs.Opened.{numbers-is, tail_freqs-read, tail_block-is}
 
 numbers-ok : (ns rest : List ℕ) → AllBelow (2 ^ 32) ns
-    → numbers (length ns) (vints ns ++ rest) ≡ ok (record { values = ns; used = length (vints ns); complete = true })
+    → numbers (length ns) (vints ns ++ rest) ≡ Ok (record { values = ns; used = length (vints ns); complete = true })
 unfolding ask
 numbers-ok ns rest small = rw (numbers-is, numbers-read-back ns rest small)
 
 ids-read : (least : ℕ) (ds rest : List ℕ) → rising least ds ≡ true
     → (let vs : List ℕ = gaps false least ds in
-    numbers (length ds) (vints vs ++ rest) ≡ ok (record { values = vs; used = length (vints vs); complete = true }))
+    numbers (length ds) (vints vs ++ rest) ≡ Ok (record { values = vs; used = length (vints vs); complete = true }))
 ids-read least ds rest r =
     let vs : List ℕ = gaps false least ds in
     rw (← length-gaps false least ds) (numbers-ok vs rest (AllBelow-le vs (omega arith) (gaps-below false least ds r)))
 
-kept_read : (fs : List ℕ) → countable fs ≡ true → tail_freqs true true (length fs) (vints fs) ≡ ok fs
+kept_read : (fs : List ℕ) → countable fs ≡ true → tail_freqs true true (length fs) (vints fs) ≡ Ok fs
 unfolding ask and_then ended
 kept_read fs c =
     let first = ap (numbers (length fs)) (sym (append-nil (vints fs))) ∙ numbers-ok fs [] (countable-below fs c) in
@@ -46,7 +47,7 @@ kept_read fs c =
 
 freqs-read : (keeps wanted : Bool) (fs : List ℕ) → (keeps ≡ true → countable fs ≡ true)
     → tail_freqs (and keeps (ltb 0 (length fs))) wanted (length fs) (only_if keeps (vints fs))
-    ≡ ok (read_freqs (and keeps wanted) fs)
+    ≡ Ok (read_freqs (and keeps wanted) fs)
 unfolding tail_freqs only_if vints read_freqs
 freqs-read false wanted fs h = refl
 freqs-read true false [] h = refl
@@ -94,7 +95,7 @@ finds_kept mode false ds fs e = rw (not-kept mode) (finds_none (kept_in mode tru
 pub tail-reads-back : (option reader : IndexRecordOption) (wanted alone : Bool) (least : ℕ) (ds fs : List ℕ)
     → Accepted option least ds fs → Finds reader option alone (length ds) fs
     → tail_block reader wanted alone (length ds) least (vints (gaps false least ds) ++ only_if (has_freq_of option) (vints fs))
-    ≡ ok (record { docs = ds; freqs = read_freqs (and (has_freq_of option) wanted) fs; last = TERMINATED })
+    ≡ Ok (record { docs = ds; freqs = read_freqs (and (has_freq_of option) wanted) fs; last = TERMINATED })
 unfolding ask and_then
 tail-reads-back option reader wanted alone least ds fs a finds =
     rw (tail_block-is, ids-read least ds _ a.rises, gaps-read-back false least ds a.rises, a.rises)

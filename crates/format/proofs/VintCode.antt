@@ -2,6 +2,7 @@
 -- then the number of the groups above, however many bytes `vint_f` allows. Reading: what is read of the whole is what was read so
 -- far put before what is read of the rest, and a value that has passed the limit stays above it.
 -- Assumes nothing.
+use Rattle.std.specs.Prelude.{Option, None, Some}
 use mathlib.Core.Path.{◌≡◌, refl, sym, ap, ◌∙◌}
 use mathlib.Core.List.{List, [], ◌∷◌, ◌++◌}
 use Prim.Native.Nat.{ℕ, zero, suc, ◌+◌, ◌-◌, ◌*◌, ◌/◌, ◌%◌, ◌^◌, ◌≤◌, ◌<◌}
@@ -13,8 +14,6 @@ use lib.Dec.{ltb}
 use lib.ListN.{length, drop, length-append}
 use borrow.Author.Tests.{lt-ltb, le-ltb}
 use Rattle.format.proofs.Vints.{vint-length-pos, vint-length-le, Read, read-used, numbers-used}
-use Rattle.format.specs.declared.VInt.{VInt}
-use Rattle.format.specs.declared.VInt.TheVariants.{Number, Malformed}
 use Rattle.format.specs.Basics.{choose}
 use Rattle.format.specs.Vint.{vint_f, vint, vints, onward, read_f, below, read_vint_of, in_front, tail_number, tail_numbers}
 
@@ -68,38 +67,38 @@ pub length-vints : (n : ℕ) (ns : List ℕ) → length (vints (n ∷ ns)) ≡ l
 length-vints n ns = rw vints-cons (length-append (vint n) (vints ns))
 
 -- lower groups in front, `used` of them, of this value together
-onward_by : ℕ → ℕ → VInt → VInt
-onward_by used value Malformed = Malformed
-onward_by used value (Number v u) = Number (value + v * 2 ^ (7 * used)) (used + u)
+onward_by : ℕ → ℕ → Option (ℕ × ℕ) → Option (ℕ × ℕ)
+onward_by used value None = None
+onward_by used value (Some (v, u)) = Some (value + v * 2 ^ (7 * used), used + u)
 
-onward_by-zero : (r : VInt) → onward_by 0 0 r ≡ r
+onward_by-zero : (r : Option (ℕ × ℕ)) → onward_by 0 0 r ≡ r
 unfolding onward_by
-onward_by-zero Malformed = refl
-onward_by-zero (Number v u) = simp (zero-add, mul-one)
+onward_by-zero None = refl
+onward_by-zero (Some (v, u)) = simp (zero-add, mul-one)
 
 -- a group's weight is 128 times that of the group below
 weight : (used : ℕ) → 2 ^ (7 * (used + 1)) ≡ 128 * 2 ^ (7 * used)
 weight used = rw (mul-add, pow-add) (mul_comm _ _)
 
-onward_by-onward : (used value g : ℕ) (r : VInt) → onward_by used value (onward g r) ≡ onward_by (used + 1) (value + g * 2 ^ (7 * used)) r
+onward_by-onward : (used value g : ℕ) (r : Option (ℕ × ℕ)) → onward_by used value (onward g r) ≡ onward_by (used + 1) (value + g * 2 ^ (7 * used)) r
 unfolding onward_by onward
-onward_by-onward used value g Malformed = refl
-onward_by-onward used value g (Number v u) = rw (weight, add-mul, mul_comm 128 v, mul_assoc, add_assoc value, add_assoc used)
+onward_by-onward used value g None = refl
+onward_by-onward used value g (Some (v, u)) = rw (weight, add-mul, mul_comm 128 v, mul_assoc, add_assoc value, add_assoc used)
 
 -- a value that has reached the limit stays so
-below-reached : (limit used value : ℕ) (r : VInt) → limit ≤ value → below limit (onward_by used value r) ≡ Malformed
+below-reached : (limit used value : ℕ) (r : Option (ℕ × ℕ)) → limit ≤ value → below limit (onward_by used value r) ≡ None
 unfolding onward_by below choose
-below-reached limit used value Malformed h = refl
-below-reached limit used value (Number v u) h = rw (le-ltb (value + v * 2 ^ (7 * used)) limit (omega arith))
+below-reached limit used value None h = refl
+below-reached limit used value (Some (v, u)) h = rw (le-ltb (value + v * 2 ^ (7 * used)) limit (omega arith))
 
-read_f-nil : (most : ℕ) → read_f most [] ≡ Malformed
+read_f-nil : (most : ℕ) → read_f most [] ≡ None
 unfolding read_f
 read_f-nil zero = refl
 read_f-nil (suc most) = refl
 
 -- what is read behind a number's last byte: no group
-ended : VInt
-ended = Number 0 0
+ended : Option (ℕ × ℕ)
+ended = Some (0, 0)
 
 -- a byte is its group before what follows
 read_f_byte : (most b : ℕ) (bs : List ℕ) → b < 256
@@ -108,11 +107,11 @@ unfolding read_f choose onward ended
 read_f_byte most b bs h =
     elim (dec_lt b 128) [
       | yes l ↦ rw (lt-ltb _ _ l, mod-eq_of_lt l)
-      | no g ↦ rw (le-ltb b 128 (omega arith)) (ap (λ (n : ℕ). Number n 1) (omega arith))
+      | no g ↦ rw (le-ltb b 128 (omega arith)) (ap (λ (n : ℕ). Some (n, 1)) (omega arith))
     ]
 
 -- what a reader answers that has read `used` groups, of this value together, and goes on with bs
-pub resumed : ℕ → ℕ → ℕ → ℕ → List ℕ → VInt
+pub resumed : ℕ → ℕ → ℕ → ℕ → List ℕ → Option (ℕ × ℕ)
 resumed most limit used value bs = below limit (onward_by used value (read_f (most - used) bs))
 
 -- the value with the group of byte b added
@@ -126,11 +125,11 @@ module _ (most limit : ℕ) where
   resumed_zero bs = rw (onward_by-zero, sub-zero)
 
   -- no byte left, or none allowed
-  pub resumed_nil : (used value : ℕ) → resumed most limit used value [] ≡ Malformed
+  pub resumed_nil : (used value : ℕ) → resumed most limit used value [] ≡ None
   unfolding resumed onward_by below
   resumed_nil used value = rw read_f-nil
 
-  pub resumed_most : (value : ℕ) (bs : List ℕ) → resumed most limit most value bs ≡ Malformed
+  pub resumed_most : (value : ℕ) (bs : List ℕ) → resumed most limit most value bs ≡ None
   unfolding resumed onward_by below read_f
   resumed_most value bs = rw sub_self
 
@@ -144,7 +143,7 @@ module _ (most limit : ℕ) where
         rw (one, read_f_byte (most - (used + 1)) b bs byte, onward_by-onward)
 
     -- .. with which the limit is reached
-    pub resumed_reached : limit ≤ grown used value b → resumed most limit used value (b ∷ bs) ≡ Malformed
+    pub resumed_reached : limit ≤ grown used value b → resumed most limit used value (b ∷ bs) ≡ None
     resumed_reached h = rw resumed_byte (below-reached _ _ _ _ h)
 
     -- .. that is not the last
@@ -153,19 +152,19 @@ module _ (most limit : ℕ) where
     resumed_more h = rw (resumed_byte, lt-ltb _ _ h)
 
     -- .. that is
-    pub resumed_last : 128 ≤ b → grown used value b < limit → resumed most limit used value (b ∷ bs) ≡ Number (grown used value b) (used + 1)
+    pub resumed_last : 128 ≤ b → grown used value b < limit → resumed most limit used value (b ∷ bs) ≡ Some (grown used value b, used + 1)
     unfolding choose onward_by below ended
     resumed_last h l = rw (resumed_byte, le-ltb _ _ h) (simp (zero-mul, add-zero, lt-ltb _ _ l))
 
 -- a number that was read takes at least one byte, no more than there are, and lies below the limit
-abbrev pub Within : ℕ → List ℕ → VInt → Type 0
-Within limit bs Malformed = Unit {0}
-Within limit bs (Number value used) = (value < limit) × (1 ≤ used) × (used ≤ length bs)
+abbrev pub Within : ℕ → List ℕ → Option (ℕ × ℕ) → Type 0
+Within limit bs None = Unit {0}
+Within limit bs (Some (value, used)) = (value < limit) × (1 ≤ used) × (used ≤ length bs)
 
 within_of :
-    (most limit : ℕ) (bs : List ℕ) (r : VInt) → ((value used : ℕ) → r ≡ Number value used → Read most limit bs value used) → Within limit bs r
-within_of most limit bs Malformed h = tt
-within_of most limit bs (Number value used) h =
+    (most limit : ℕ) (bs : List ℕ) (r : Option (ℕ × ℕ)) → ((value used : ℕ) → r ≡ Some (value, used) → Read most limit bs value used) → Within limit bs r
+within_of most limit bs None h = tt
+within_of most limit bs (Some (value, used)) h =
     let r = h value used refl in
     (r.value_below, r.used_pos, r.used_length)
 

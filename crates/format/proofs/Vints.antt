@@ -3,6 +3,7 @@
 -- first, behind whose bytes the others begin. Whatever is read, of any bytes, took some of those that were there and lies below
 -- its limit.
 -- Assumes nothing.
+use Rattle.std.specs.Prelude.{Option, None, Some}
 use mathlib.Core.Bool.{true, false≢true}
 use mathlib.Core.List.{List, [], ◌∷◌, ◌++◌, append_assoc}
 use mathlib.Core.Path.{◌≡◌, refl, ap}
@@ -15,8 +16,6 @@ use borrow.Author.Tests.{lt-ltb, le-ltb, ltb-true, ltb-false}
 use lib.Dec.{ltb}
 use lib.ListN.{length, drop, length-append, length-drop}
 use lib.Seq.{drop-append_seam}
-use Rattle.format.specs.declared.VInt.{VInt}
-use Rattle.format.specs.declared.VInt.TheVariants.{Number, Malformed}
 use Rattle.format.specs.Basics.{choose, AllBelow}
 use Rattle.format.specs.Vint.{vint_f, vint, vints, onward, read_f, below, read_vint_of, tail_number, skip_length}
 use Rattle.format.specs.Vint.{Numbers, in_front, tail_numbers}
@@ -48,7 +47,7 @@ spelled_le (suc (suc k)) (more g s) p h =
     suc-le-suc (spelled_le (suc k) s (zero-lt-suc k) less)
 
 spelled_reads : {n : ℕ} {bs : List ℕ} (most : ℕ) (rest : List ℕ) → Spelled n bs → length bs ≤ most
-    → read_f most (bs ++ rest) ≡ Number n (length bs)
+    → read_f most (bs ++ rest) ≡ Some (n, length bs)
 unfolding read_f choose onward
 spelled_reads zero rest s h = absurd (not-suc-le-zero (le_trans (spelled_pos s) h))
 spelled_reads (suc most) rest (last {n}) h = rw (le-ltb (n + 128) 128 (omega arith), add-sub_cancel)
@@ -64,15 +63,15 @@ unfolding vint
 vint-length-le k n = spelled_le k (spelled 9 n)
 
 pub vint-reads-back : (most limit n : ℕ) (rest : List ℕ) → length (vint n) ≤ most → n < limit
-    → read_vint_of most limit (vint n ++ rest) ≡ Number n (length (vint n))
+    → read_vint_of most limit (vint n ++ rest) ≡ Some (n, length (vint n))
 unfolding vint read_vint_of below choose
 vint-reads-back most limit n rest m l = rw (spelled_reads most rest (spelled 9 n) m, lt-ltb n limit l)
 
-pub tail-number-reads-back : (n : ℕ) (rest : List ℕ) → n < 2 ^ 32 → tail_number (vint n ++ rest) ≡ Number n (length (vint n))
+pub tail-number-reads-back : (n : ℕ) (rest : List ℕ) → n < 2 ^ 32 → tail_number (vint n ++ rest) ≡ Some (n, length (vint n))
 unfolding tail_number
 tail-number-reads-back n rest h = vint-reads-back 5 (2 ^ 32) n rest (vint-length-le 5 n (omega arith) (omega arith)) h
 
-pub skip-length-reads-back : (n : ℕ) (rest : List ℕ) → n < 2 ^ 64 → skip_length (vint n ++ rest) ≡ Number n (length (vint n))
+pub skip-length-reads-back : (n : ℕ) (rest : List ℕ) → n < 2 ^ 64 → skip_length (vint n ++ rest) ≡ Some (n, length (vint n))
 unfolding skip_length
 skip-length-reads-back n rest h = vint-reads-back 10 (2 ^ 64) n rest (vint-length-le 10 n (omega arith) (omega arith)) h
 
@@ -100,19 +99,19 @@ numbers-read-back (n ∷ ns) rest a =
 -- ---- whatever is read
 
 -- of a number and the bytes it took, if there is one
-abbrev OfNumber : (ℕ → ℕ → Type 0) → VInt → Type 0
-OfNumber P Malformed = Unit {0}
-OfNumber P (Number value used) = P value used
+abbrev OfNumber : (ℕ → ℕ → Type 0) → Option (ℕ × ℕ) → Type 0
+OfNumber P None = Unit {0}
+OfNumber P (Some (value, used)) = P value used
 
 -- at most `most` bytes, of those that are there
 abbrev Within : ℕ → List ℕ → ℕ → ℕ → Type 0
 Within most bs value used = (1 ≤ used) × (used ≤ most) × (used ≤ length bs)
 
-onward-within : (most b : ℕ) (bs : List ℕ) (r : VInt) → OfNumber (Within most bs) r
+onward-within : (most b : ℕ) (bs : List ℕ) (r : Option (ℕ × ℕ)) → OfNumber (Within most bs) r
     → OfNumber (Within (suc most) (b ∷ bs)) (onward b r)
 unfolding onward
-onward-within most b bs Malformed h = tt
-onward-within most b bs (Number value used) h = omega arith
+onward-within most b bs None h = tt
+onward-within most b bs (Some (value, used)) h = omega arith
 
 read_f-within : (most : ℕ) (bs : List ℕ) → OfNumber (Within most bs) (read_f most bs)
 unfolding read_f
@@ -130,11 +129,11 @@ pub record Read (most limit : ℕ) (bs : List ℕ) (value used : ℕ) : Type 0 w
   pub used_length : used ≤ length bs
   pub value_below : value < limit
 
-below-read : (most limit : ℕ) (bs : List ℕ) (r : VInt) → OfNumber (Within most bs) r
+below-read : (most limit : ℕ) (bs : List ℕ) (r : Option (ℕ × ℕ)) → OfNumber (Within most bs) r
     → OfNumber (Read most limit bs) (below limit r)
 unfolding below
-below-read most limit bs Malformed h = tt
-below-read most limit bs (Number value used) h =
+below-read most limit bs None h = tt
+below-read most limit bs (Some (value, used)) h =
     choose_elim (OfNumber (Read most limit bs)) (ltb value limit) _ _
     (λ t. record { used_pos = h.0; used_most = h.1; used_length = h.2; value_below = ltb-true value limit t })
     (λ _. tt)
@@ -143,7 +142,7 @@ read-within : (most limit : ℕ) (bs : List ℕ) → OfNumber (Read most limit b
 unfolding read_vint_of
 read-within most limit bs = below-read most limit bs (read_f most bs) (read_f-within most bs)
 
-pub read-used : (most limit : ℕ) (bs : List ℕ) {value used : ℕ} → read_vint_of most limit bs ≡ Number value used
+pub read-used : (most limit : ℕ) (bs : List ℕ) {value used : ℕ} → read_vint_of most limit bs ≡ Some (value, used)
     → Read most limit bs value used
 read-used most limit bs e = rw e at (read-within most limit bs)
 
@@ -154,13 +153,13 @@ pub record NumbersRead (n : ℕ) (bs : List ℕ) (ns : Numbers) : Type 0 where
   pub values_below : AllBelow (2 ^ 32) ns.values
   pub complete_length : ns.complete ≡ true → length ns.values ≡ n
 
-in_front-read : (n : ℕ) (bs : List ℕ) (r : VInt) (rest : ℕ → Numbers)
+in_front-read : (n : ℕ) (bs : List ℕ) (r : Option (ℕ × ℕ)) (rest : ℕ → Numbers)
     → OfNumber (Read 5 (2 ^ 32) bs) r → ((used : ℕ) → NumbersRead n (drop used bs) (rest used))
     → NumbersRead (suc n) bs (in_front r rest)
 unfolding in_front
-in_front-read n bs Malformed rest h k =
+in_front-read n bs None rest h k =
     record { used_length = zero-le; values_length = zero-le; values_below = tt; complete_length = λ e. absurd (false≢true e) }
-in_front-read n bs (Number value used) rest h k =
+in_front-read n bs (Some (value, used)) rest h k =
     let later = k used in
     record {
       used_length = omega (arith, later.used_length, length-drop used bs);

@@ -1,32 +1,30 @@
 -- What all definitions share: what a call answers, a choice, lists by index, little-endian words, and TERMINATED.
 -- Assumes nothing.
-use Rattle.std.specs.Prelude.{Bool, true, false, List, [], ◌∷◌, ◌++◌, ℕ, zero, suc, ◌+◌, ◌*◌, ◌/◌, ◌%◌, ◌<◌, length, get_or, take, drop, leb}
-use Rattle.format.specs.declared.Next.{Next}
-use Rattle.format.specs.declared.Next.TheVariants.{At, Refused}
+use Rattle.std.specs.Prelude.{Bool, true, false, List, [], ◌∷◌, ◌++◌, ℕ, zero, suc, ◌+◌, ◌*◌, ◌/◌, ◌%◌, ◌<◌, length, get_or, take, drop, leb, Option, None, Some, Result, Ok, Err}
+use Rattle.format.specs.declared.refusal.Refusal.{Refusal}
 
 -- END of document 01: the document at the end of a list
 abbrev pub TERMINATED : ℕ
 TERMINATED = 2147483647
 
--- a value, or the number of the first question of document 01 that is answered no
-pub data Outcome (A : Type 0) : Type 0 where
-  ok : A → Outcome A
-  refused : ℕ → Outcome A
+-- a value, or the first question of document 01 that is answered no
+abbrev pub Outcome : Type 0 → Type 0
+Outcome A = Result A Refusal
 
 -- the first refusal ends it
 unfoldable pub and_then : {A B : Type 0} → Outcome A → (A → Outcome B) → Outcome B
-and_then (ok a) f = f a
-and_then (refused n) f = refused n
+and_then (Ok a) f = f a
+and_then (Err r) f = Err r
 
--- a question: go on where the answer is yes, else refuse under its number
-unfoldable pub ask : {A : Type 0} → Bool → ℕ → (Bool → Outcome A) → Outcome A
-ask true n go = go true
-ask false n go = refused n
+-- a question: go on where the answer is yes, else refuse
+unfoldable pub ask : {A : Type 0} → Bool → Refusal → (Bool → Outcome A) → Outcome A
+ask true r go = go true
+ask false r go = Err r
 
 -- what an outcome brings, or what stood there before
 unfoldable pub or_before : {A B : Type 0} → (A → B) → Outcome A → B → B
-or_before f (ok a) before = f a
-or_before f (refused n) before = before
+or_before f (Ok a) before = f a
+or_before f (Err r) before = before
 
 -- one of two; the other isn't computed
 unfoldable pub choose : {A : Type 0} → Bool → (Bool → A) → (Bool → A) → A
@@ -74,6 +72,6 @@ unfolding choose fits_at
 put_at p bs area = choose (fits_at p bs area) (λ _. take p area ++ (bs ++ drop (p + length bs) area)) (λ _. area)
 
 -- the place behind them
-unfoldable pub next_at : ℕ → List ℕ → List ℕ → Next
+unfoldable pub next_at : ℕ → List ℕ → List ℕ → Option ℕ
 unfolding choose fits_at
-next_at p bs area = choose (fits_at p bs area) (λ _. At (p + length bs)) (λ _. Refused)
+next_at p bs area = choose (fits_at p bs area) (λ _. Some (p + length bs)) (λ _. None)

@@ -1,9 +1,9 @@
 -- How many documents lie below a target, which ones they are, and the total, the sum of their frequencies. Rank, which a fresh cursor
 -- counts by a seek, is `ranking` of crate segment_postings.
 -- Assumes nothing.
-use Rattle.std.specs.Prelude.{◌||◌ as or, List, [], ◌∷◌, ℕ, ◌+◌, length, take, eqb, leb, ltb}
-use Rattle.format.specs.Basics.{Outcome, ok, refused, ask, choose, TERMINATED}
-use Rattle.format.specs.Refusal.{target_too_large}
+use Rattle.format.specs.declared.refusal.Refusal.TheVariants.{TargetTooLarge}
+use Rattle.std.specs.Prelude.{List, [], ◌∷◌, ℕ, ◌+◌, length, take, leb, ltb, Ok}
+use Rattle.format.specs.Basics.{Outcome, and_then, ask, choose, TERMINATED}
 use Rattle.format.specs.Reading.{Reading, reading, docs_of, freqs_of}
 
 -- how many documents at the front lie below the target
@@ -18,18 +18,17 @@ sum (f ∷ fs) = f + sum fs
 
 -- the frequencies below the target, if the walk comes to a document at or above it or to the end
 unfoldable pub total_in : ℕ → Reading → Outcome ℕ
-unfolding choose count_below sum docs_of freqs_of
+unfolding and_then choose count_below sum docs_of freqs_of
 total_in target r =
     let n : ℕ = count_below target (docs_of r.blocks) in
-    choose (or (ltb n (length (docs_of r.blocks))) (eqb r.refusal 0))
-    (λ _. ok (sum (take n (freqs_of r.blocks))))
-    (λ _. refused r.refusal)
+    and_then (choose (ltb n (length (docs_of r.blocks))) (λ _. Ok tt) (λ _. r.verdict)) λ _.
+    Ok (sum (take n (freqs_of r.blocks)))
 
 -- question 10, then a walk with frequencies requested
 unfoldable pub total : ℕ → ℕ → List ℕ → ℕ → Outcome ℕ
 unfolding ask total_in reading
 total mode count bs target =
-    ask (leb target TERMINATED) target_too_large λ _.
+    ask (leb target TERMINATED) TargetTooLarge λ _.
     total_in target (reading (record { mode = mode; requested = 1; count = count }) bs)
 
 -- ---- what rank and total are on a sound image (crate postings: `rank_counted`, `total-sums`)

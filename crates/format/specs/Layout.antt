@@ -1,13 +1,11 @@
 -- The parts of an image: questions 1 to 4.
 -- Assumes nothing.
-use Rattle.std.specs.Prelude.{true, ◌&&◌ as and, List, ℕ, ◌+◌, ◌-◌, ◌*◌, ◌/◌, ◌%◌, length, take, drop, eqb, leb}
+use Rattle.format.specs.declared.refusal.Refusal.TheVariants.{UnknownMode, CountTooLarge, SkipLengthBroken, SkipLengthWrong}
+use Rattle.std.specs.Prelude.{true, ◌&&◌ as and, List, ℕ, ◌+◌, ◌-◌, ◌*◌, ◌/◌, ◌%◌, length, take, drop, eqb, leb, Ok, Err, Option, None, Some}
 use Rattle.format.specs.declared.IndexRecordOption.{IndexRecordOption}
 use Rattle.format.specs.declared.Layout.{Layout}
 use Rattle.format.specs.declared.Term.{Term}
-use Rattle.format.specs.declared.VInt.{VInt}
-use Rattle.format.specs.declared.VInt.TheVariants.{Number, Malformed}
-use Rattle.format.specs.Basics.{Outcome, ok, refused, ask, choose, TERMINATED}
-use Rattle.format.specs.Refusal.{unknown_mode, count_too_large, skip_length_broken, skip_length_wrong}
+use Rattle.format.specs.Basics.{Outcome, ask, choose, TERMINATED}
 use Rattle.format.specs.Vint.{skip_length}
 use Rattle.format.specs.SkipEntry.{entry_size_of}
 use Rattle.format.specs.Accepted.{known_mode_of, kept_in}
@@ -31,21 +29,21 @@ unfoldable pub sized : Term → ℕ → ℕ → Outcome Layout
 unfolding ask full_blocks_of entry_size_of kept_in
 sized t size used =
     let option : IndexRecordOption = kept_in t.mode (leb (8 * full_blocks_of t) size) in
-    ask (eqb size (entry_size_of option * full_blocks_of t)) skip_length_wrong λ _.
-    ok (record { option = option; skips = used; postings = used + size })
+    ask (eqb size (entry_size_of option * full_blocks_of t)) SkipLengthWrong λ _.
+    Ok (record { option = option; skips = used; postings = used + size })
 
 -- question 3: the skip length is a number, not above the bytes left
-unfoldable pub split : Term → List ℕ → VInt → Outcome Layout
+unfoldable pub split : Term → List ℕ → Option (ℕ × ℕ) → Outcome Layout
 unfolding ask sized
-split t bs Malformed = refused skip_length_broken
-split t bs (Number size used) = ask (leb size (length bs - used)) skip_length_broken λ _. sized t size used
+split t bs None = Err SkipLengthBroken
+split t bs (Some (size, used)) = ask (leb size (length bs - used)) SkipLengthBroken λ _. sized t size used
 
 -- questions 1 to 4
 unfoldable pub layout : Term → List ℕ → Outcome Layout
 unfolding ask choose full_blocks_of split skip_length known_mode_of kept_in
 layout t bs =
-    ask (and (known_mode_of t.mode) (leb t.requested 2)) unknown_mode λ _.
-    ask (leb t.count TERMINATED) count_too_large λ _.
+    ask (and (known_mode_of t.mode) (leb t.requested 2)) UnknownMode λ _.
+    ask (leb t.count TERMINATED) CountTooLarge λ _.
     choose (eqb (full_blocks_of t) 0)
-    (λ _. ok (record { option = kept_in t.mode true; skips = 0; postings = 0 }))
+    (λ _. Ok (record { option = kept_in t.mode true; skips = 0; postings = 0 }))
     (λ _. split t bs (skip_length bs))

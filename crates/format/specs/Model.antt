@@ -1,9 +1,10 @@
 -- The reference model of a list of calls (document 01 calls it the book). It is fed the documents and frequencies of an image
 -- and the calls, and keeps a position and the set of blocks in which the position has been. Nothing of a cursor enters it.
 -- Assumes nothing.
+use Rattle.format.specs.declared.refusal.Refusal.{Refusal}
+use Rattle.format.specs.declared.refusal.Refusal.TheVariants.{TargetTooLarge}
 use Rattle.std.specs.Prelude.{Bool, false, ◌||◌ as or, List, [], ◌∷◌, ℕ, ◌+◌, ◌/◌, min, length, drop, get_or, eqb, leb}
 use Rattle.format.specs.Basics.{choose, TERMINATED}
-use Rattle.format.specs.Refusal.{target_too_large}
 use Rattle.format.specs.Counts.{count_below}
 
 pub data Call : Type 0 where
@@ -14,10 +15,10 @@ pub record State : Type 0 where
   pub position : ℕ
   pub visited : List ℕ
 
--- document, frequency, blocks unpacked; or a refusal's number
+-- document, frequency, blocks unpacked; or a refusal
 pub data Answer : Type 0 where
   at : ℕ → ℕ → ℕ → Answer
-  refused : ℕ → Answer
+  refused : Refusal → Answer
 
 unfoldable pub member : ℕ → List ℕ → Bool
 member b [] = false
@@ -53,7 +54,7 @@ unfoldable pub answer : List ℕ → List ℕ → State → Call → Answer
 unfolding after here choose
 answer ds fs s step = here ds fs (after ds s step)
 answer ds fs s (seek t) =
-    choose (or (leb t TERMINATED) (eqb s.position (length ds))) (λ _. here ds fs (after ds s (seek t))) (λ _. refused target_too_large)
+    choose (or (leb t TERMINATED) (eqb s.position (length ds))) (λ _. here ds fs (after ds s (seek t))) (λ _. refused TargetTooLarge)
 
 unfoldable pub answers_from : List ℕ → List ℕ → State → List Call → List Answer
 unfolding answer after

@@ -1,8 +1,6 @@
 -- Short numbers (vints): seven bits a byte, lowest first, the top bit set on the last byte alone.
 -- Assumes nothing.
-use Rattle.std.specs.Prelude.{Bool, true, false, List, [], ◌∷◌, ◌++◌, ℕ, zero, suc, ◌+◌, ◌-◌, ◌*◌, ◌/◌, ◌%◌, ◌^◌, drop, ltb}
-use Rattle.format.specs.declared.VInt.{VInt}
-use Rattle.format.specs.declared.VInt.TheVariants.{Number, Malformed}
+use Rattle.std.specs.Prelude.{Bool, true, false, List, [], ◌∷◌, ◌++◌, ℕ, zero, suc, ◌+◌, ◌-◌, ◌*◌, ◌/◌, ◌%◌, ◌^◌, drop, ltb, Option, None, Some}
 use Rattle.format.specs.Basics.{choose}
 
 -- at most f + 1 bytes
@@ -22,34 +20,34 @@ vints [] = []
 vints (n ∷ ns) = vint n ++ vints ns
 
 -- a lower group in front
-unfoldable pub onward : ℕ → VInt → VInt
-onward g Malformed = Malformed
-onward g (Number value used) = Number (g + 128 * value) (1 + used)
+unfoldable pub onward : ℕ → Option (ℕ × ℕ) → Option (ℕ × ℕ)
+onward g None = None
+onward g (Some (value, used)) = Some (g + 128 * value, 1 + used)
 
 -- the number at the beginning of bs, of at most `most` bytes; zero groups at the upper end are accepted
-unfoldable pub read_f : ℕ → List ℕ → VInt
+unfoldable pub read_f : ℕ → List ℕ → Option (ℕ × ℕ)
 unfolding choose onward
-read_f zero bs = Malformed
-read_f (suc most) [] = Malformed
-read_f (suc most) (b ∷ bs) = choose (ltb b 128) (λ _. onward b (read_f most bs)) (λ _. Number (b - 128) 1)
+read_f zero bs = None
+read_f (suc most) [] = None
+read_f (suc most) (b ∷ bs) = choose (ltb b 128) (λ _. onward b (read_f most bs)) (λ _. Some (b - 128, 1))
 
-unfoldable pub below : ℕ → VInt → VInt
+unfoldable pub below : ℕ → Option (ℕ × ℕ) → Option (ℕ × ℕ)
 unfolding choose
-below limit Malformed = Malformed
-below limit (Number value used) = choose (ltb value limit) (λ _. Number value used) (λ _. Malformed)
+below limit None = None
+below limit (Some (value, used)) = choose (ltb value limit) (λ _. Some (value, used)) (λ _. None)
 
 -- .. and below `limit`
-unfoldable pub read_vint_of : ℕ → ℕ → List ℕ → VInt
+unfoldable pub read_vint_of : ℕ → ℕ → List ℕ → Option (ℕ × ℕ)
 unfolding below read_f
 read_vint_of most limit bs = below limit (read_f most bs)
 
 -- a tail's number: at most 5 bytes and below 2 ^ 32
-unfoldable pub tail_number : List ℕ → VInt
+unfoldable pub tail_number : List ℕ → Option (ℕ × ℕ)
 unfolding read_vint_of
 tail_number bs = read_vint_of 5 (2 ^ 32) bs
 
 -- a skip length: at most 10 bytes and below 2 ^ 64
-unfoldable pub skip_length : List ℕ → VInt
+unfoldable pub skip_length : List ℕ → Option (ℕ × ℕ)
 unfolding read_vint_of
 skip_length bs = read_vint_of 10 (2 ^ 64) bs
 
@@ -60,9 +58,9 @@ pub record Numbers : Type 0 where
   pub complete : Bool
 
 -- a number in front of those read of the bytes behind it
-unfoldable pub in_front : VInt → (ℕ → Numbers) → Numbers
-in_front Malformed rest = record { values = []; used = 0; complete = false }
-in_front (Number value used) rest =
+unfoldable pub in_front : Option (ℕ × ℕ) → (ℕ → Numbers) → Numbers
+in_front None rest = record { values = []; used = 0; complete = false }
+in_front (Some (value, used)) rest =
     let ns : Numbers = rest used in
     record { values = value ∷ ns.values; used = used + ns.used; complete = ns.complete }
 

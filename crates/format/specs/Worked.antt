@@ -1,8 +1,10 @@
 -- The worked lists of document 01, as one table with one test.
 -- Assumes nothing.
-use Rattle.std.specs.Prelude.{Bool, true, false, ◌&&◌ as and, List, [], ◌∷◌, ◌++◌, ℕ, ◌+◌, length, replicate, eqb}
-use Rattle.format.specs.Basics.{Outcome, ok, refused, tabulate, TERMINATED}
-use Rattle.format.specs.Refusal.{entry_broken, bytes_left, target_too_large, id_too_large}
+use Rattle.format.specs.declared.refusal.Refusal.TheVariants.{EntryBroken, BytesLeft, TargetTooLarge, IdTooLarge}
+use Rattle.std.specs.Prelude.{Bool, true, false, ◌&&◌ as and, List, [], ◌∷◌, ◌++◌, ℕ, ◌+◌, length, replicate, eqb, Ok, Err}
+use Rattle.format.specs.declared.refusal.Refusal.{Refusal}
+use Rattle.format.specs.Refusal.{number_of}
+use Rattle.format.specs.Basics.{Outcome, tabulate, TERMINATED}
 use Rattle.format.specs.SkipEntry.{has_freq_of}
 use Rattle.format.specs.Accepted.{kept_in, written}
 use Rattle.format.specs.Reading.{Reading, reading, soundness, docs_of, freqs_of}
@@ -21,16 +23,16 @@ same (x ∷ xs) (y ∷ ys) = and (eqb x y) (same xs ys)
 unfoldable pub shown : List Answer → List ℕ
 shown [] = []
 shown (model.at d f u ∷ rest) = 0 ∷ d ∷ f ∷ u ∷ shown rest
-shown (model.refused n ∷ rest) = n ∷ shown rest
+shown (model.refused r ∷ rest) = number_of r ∷ shown rest
 
 pub data Case : Type 0 where
   -- in this mode, recording, these ids and frequencies are written as these bytes, which are sound and read back: the ids, and the
   -- frequencies where they are kept, else a 1 for each
   writes : ℕ → List ℕ → List ℕ → List ℕ → Case
-  -- .. are refused under this number
-  refuses : ℕ → List ℕ → List ℕ → ℕ → Case
-  -- in this mode an image of this count and these bytes is refused under this number, 0 where it is sound
-  weighs : ℕ → ℕ → List ℕ → ℕ → Case
+  -- .. are refused so
+  refuses : ℕ → List ℕ → List ℕ → Refusal → Case
+  -- in this mode an image of this count and these bytes is sound, or refused so
+  weighs : ℕ → ℕ → List ℕ → Outcome (Unit {0}) → Case
   -- .. has these frequencies
   holds : ℕ → ℕ → List ℕ → List ℕ → Case
   -- .. has, below this target, this total
@@ -40,33 +42,34 @@ pub data Case : Type 0 where
   -- .. the model comes by these calls to this position, with this many skip entries read
   ends_at : ℕ → ℕ → List ℕ → List Call → ℕ → ℕ → Case
 
-unfoldable pub number_of : {A : Type 0} → Outcome A → ℕ
-number_of (ok a) = 0
-number_of (refused n) = n
+-- 0, or the refusal's number
+unfoldable pub outcome_number : {A : Type 0} → Outcome A → ℕ
+outcome_number (Ok a) = 0
+outcome_number (Err r) = number_of r
 
 unfoldable pub is_ok : Outcome (List ℕ) → List ℕ → Bool
 unfolding same
-is_ok (ok a) b = same a b
-is_ok (refused n) b = false
+is_ok (Ok a) b = same a b
+is_ok (Err n) b = false
 
 unfoldable pub is_number : Outcome ℕ → ℕ → Bool
-is_number (ok a) n = eqb a n
-is_number (refused m) n = false
+is_number (Ok a) n = eqb a n
+is_number (Err m) n = false
 
 unfoldable pub read_in : ℕ → ℕ → List ℕ → Reading
 unfolding reading
 read_in mode count bs = reading (record { mode = mode; requested = 1; count = count }) bs
 
 unfoldable pub passes : Case → Bool
-unfolding is_ok is_number number_of same shown has_freq_of kept_in written read_in soundness docs_of freqs_of read_freqs total answers after_all opened entries_read
+unfolding is_ok is_number outcome_number same shown has_freq_of kept_in written read_in soundness docs_of freqs_of read_freqs total answers after_all opened entries_read
 passes (writes mode ds fs bs) =
     let r : Reading = read_in mode (length ds) bs in
     and (is_ok (written mode true ds fs) bs)
-    (and (eqb (soundness mode (length ds) bs) 0)
+    (and (eqb (outcome_number (soundness mode (length ds) bs)) 0)
     (and (same (docs_of r.blocks) ds)
     (same (freqs_of r.blocks) (read_freqs (has_freq_of (kept_in mode true)) fs))))
-passes (refuses mode ds fs n) = eqb (number_of (written mode true ds fs)) n
-passes (weighs mode count bs n) = eqb (soundness mode count bs) n
+passes (refuses mode ds fs r) = eqb (outcome_number (written mode true ds fs)) (number_of r)
+passes (weighs mode count bs v) = eqb (outcome_number (soundness mode count bs)) (outcome_number v)
 passes (holds mode count bs fs) = same (freqs_of (read_in mode count bs).blocks) fs
 passes (totals mode count bs target n) = is_number (total mode count bs target) n
 passes (answers_to mode count bs cs expected) =
@@ -109,8 +112,8 @@ unfoldable pub table : List Case
 unfolding run ones three block_and_one largest_id wide
 table =
     writes 1 [] [] []
-    ∷ weighs 0 0 (7 ∷ []) bytes_left
-    ∷ weighs 1 0 (7 ∷ []) bytes_left
+    ∷ weighs 0 0 (7 ∷ []) (Err BytesLeft)
+    ∷ weighs 1 0 (7 ∷ []) (Err BytesLeft)
     ∷ answers_to 1 0 [] [] (model.at TERMINATED 0 1 ∷ [])
     ∷ writes 1 (0 ∷ []) (1 ∷ []) (0x80 ∷ 0x81 ∷ [])
     ∷ writes 0 (0 ∷ []) (1 ∷ []) (0x80 ∷ [])
@@ -120,7 +123,7 @@ table =
     ∷ totals 1 3 three TERMINATED 133
     ∷ answers_to 1 3 three (model.step ∷ model.step ∷ model.step ∷ [])
     (model.at 3 1 1 ∷ model.at 7 2 1 ∷ model.at 300 130 1 ∷ model.at TERMINATED 0 1 ∷ [])
-    ∷ weighs 1 3 (0x83 ∷ 0x84 ∷ 0x25 ∷ 0x82 ∷ []) 0
+    ∷ weighs 1 3 (0x83 ∷ 0x84 ∷ 0x25 ∷ 0x82 ∷ []) (Ok tt)
     ∷ holds 1 3 (0x83 ∷ 0x84 ∷ 0x25 ∷ 0x82 ∷ []) (1 ∷ 1 ∷ 1 ∷ [])
     ∷ writes 1 (run 0 128) (ones 128) (0x88 ∷ 0x7F ∷ 0 ∷ 0 ∷ 0 ∷ 0x40 ∷ 0 ∷ 0 ∷ 0 ∷ [])
     ∷ writes 0 (run 0 128) (ones 128) (0x85 ∷ 0x7F ∷ 0 ∷ 0 ∷ 0 ∷ 0x40 ∷ [])
@@ -131,9 +134,9 @@ table =
     ∷ answers_to 0 129 block_and_one (model.seek 128 ∷ []) (model.at 0 1 1 ∷ model.at 128 1 2 ∷ [])
     ∷ ends_at 0 129 block_and_one (model.seek 128 ∷ []) 128 1
     ∷ writes 0 (2147483646 ∷ []) (1 ∷ []) largest_id
-    ∷ refuses 0 (TERMINATED ∷ []) (1 ∷ []) id_too_large
+    ∷ refuses 0 (TERMINATED ∷ []) (1 ∷ []) IdTooLarge
     ∷ answers_to 0 1 largest_id (model.seek 2147483648 ∷ model.seek TERMINATED ∷ [])
-    (model.at 2147483646 1 1 ∷ model.refused target_too_large ∷ model.at TERMINATED 0 1 ∷ [])
-    ∷ weighs 1 128 (wide 32 512) 0
-    ∷ weighs 1 128 (wide 33 528) entry_broken
+    (model.at 2147483646 1 1 ∷ model.refused TargetTooLarge ∷ model.at TERMINATED 0 1 ∷ [])
+    ∷ weighs 1 128 (wide 32 512) (Ok tt)
+    ∷ weighs 1 128 (wide 33 528) (Err EntryBroken)
     ∷ []
