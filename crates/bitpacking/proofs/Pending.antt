@@ -5,15 +5,18 @@
 --     pending_less    taken off, the rest is what is pending behind it
 -- Assumes nothing.
 use mathlib.Core.Path.{◌≡◌, refl, sym, ap, ap₂, ◌∙◌}
-use mathlib.Core.List.{List}
+use mathlib.Core.List.{List, [], ◌∷◌, map}
 use Prim.Native.Nat.{ℕ, ◌+◌, ◌-◌, ◌*◌, ◌/◌, ◌%◌, ◌^◌, ◌≤◌, ◌<◌}
-use native.Mathlib.Nat.{mod-lt, mul_assoc, add_comm, mul-add-div_right, add-mul, add-zero, zero-mul, one-mul, mod-one, div-one, lt_of_lt_of_le, le_of_lt}
+use native.Mathlib.Nat.{mod-lt, mul_assoc, add_comm, mul-add-div_right, add-mul, zero-mul, one-mul, mod-one, div-one, lt_of_lt_of_le, le_of_lt}
 use native.Mathlib.Omega.{arith}
 use lib.Dec.{lit<}
-use lib.ListN.{get_or}
+use lib.ListN.{get_or, replicate}
 use lib.Pow.{pow_pos, pow-add, pow_mono, mod-pow-add, shr_lt, shr-shr}
+use Rattle.format.specs.Basics.{tabulate, le32}
 use Rattle.format.specs.Bitpacking.{lane_of, packed_at}
 use Rattle.format.proofs.Lanes.{lane_of_digit}
+use Rattle.format.proofs.Tabulate.{tabulate-map, tabulate-same, tabulate-at}
+use Rattle.bitpacking.proofs.Filled.{four_are}
 use Rattle.bitpacking.proofs.Shifts.{lowest, upper}
 use Rattle.bitpacking.specs.declared.Lanes.{Lanes}
 use Rattle.bitpacking.specs.Packed.{pending, words_taken_of, WordIs, WordsAre, LanesHold, LanesAt}
@@ -78,13 +81,13 @@ module _ (w : ℕ) (vs : List ℕ) (m : ℕ) where
       place = omega arith
 
   pub pending-word : (n words : ℕ) → m < 4 → 32 * words + 32 ≤ n → WordIs (packed_at w vs) (16 * words + 4 * m) (pending w vs m n words % 2 ^ 32)
+  unfolding le32 tabulate
   pending-word n words hm full =
-      record {
-        byte₀ = ap (packed_at w vs) (sym (add-zero _)) ∙ byte n words 0 hm (lit< tt) full ∙ ap (λ (y : ℕ). y % 256) (div-one _);
-        byte₁ = byte n words 1 hm (lit< tt) full;
-        byte₂ = byte n words 2 hm (lit< tt) full;
-        byte₃ = byte n words 3 hm (lit< tt) full;
-      }
+      ap (λ (y : ℕ). y % 256 ∷ x / 2 ^ 8 % 256 ∷ x / 2 ^ 16 % 256 ∷ x / 2 ^ 24 % 256 ∷ []) (sym (div-one x))
+      ∙ tabulate-same 4 (λ b. x / 2 ^ (8 * b) % 256) (λ b. packed_at w vs (16 * words + 4 * m + b)) (λ b h. sym (byte n words b hm h full))
+    where
+      x : ℕ
+      x = pending w vs m n words % 2 ^ 32
 
   pub pending-small : (bits words n : ℕ) → bits < 32 → bits + 32 * words ≡ n → pending w vs m n words < 2 ^ 32
   pending-small bits words n h e = lt_of_lt_of_le (pending-below bits words n e) (pow_mono {i = bits} {j = 32} (le_of_lt h))
@@ -92,14 +95,9 @@ module _ (w : ℕ) (vs : List ℕ) (m : ℕ) where
 -- the lanes' next words are the block's
 pub words_are :
     (w n : ℕ) (vs : List ℕ) (s : Lanes) → LanesHold w n vs s → 32 * s.words + 32 ≤ n
-    → WordsAre (packed_at w vs) (16 * s.words) (s.a % 2 ^ 32) (s.b % 2 ^ 32) (s.c % 2 ^ 32) (s.d % 2 ^ 32)
-words_are w n vs s h full =
-    record {
-      in_a = rw (add-zero, ← h.in_a) at (pending-word w vs 0 n s.words (lit< tt) full);
-      in_b = rw (← h.in_b) at (pending-word w vs 1 n s.words (lit< tt) full);
-      in_c = rw (← h.in_c) at (pending-word w vs 2 n s.words (lit< tt) full);
-      in_d = rw (← h.in_d) at (pending-word w vs 3 n s.words (lit< tt) full);
-    }
+    → WordsAre (packed_at w vs) (16 * s.words) (map (λ x. x % 2 ^ 32) s.held)
+words_are w n vs s h full m hm =
+    rw (h.held, tabulate-map, tabulate-at {A = ℕ} 4 _ m 0 hm) (pending-word w vs m n s.words hm full)
 
 -- .. and with them taken off the lanes hold the rest
 pub taken_hold : (w n : ℕ) (vs : List ℕ) (s : Lanes) → LanesHold w n vs s → 32 ≤ s.bits → LanesHold w n vs (words_taken_of s)
@@ -107,10 +105,7 @@ unfolding words_taken_of
 taken_hold w n vs s h full =
     record {
       packed = omega arith;
-      in_a = ap (λ (x : ℕ). x / 2 ^ 32) h.in_a ∙ pending_less w vs 0 n s.words;
-      in_b = ap (λ (x : ℕ). x / 2 ^ 32) h.in_b ∙ pending_less w vs 1 n s.words;
-      in_c = ap (λ (x : ℕ). x / 2 ^ 32) h.in_c ∙ pending_less w vs 2 n s.words;
-      in_d = ap (λ (x : ℕ). x / 2 ^ 32) h.in_d ∙ pending_less w vs 3 n s.words;
+      held = four_are (λ x. x / 2 ^ 32) _ _ h.held (λ m _. pending_less w vs m n s.words);
     }
 
 none-pending : (w : ℕ) (vs : List ℕ) (m : ℕ) → 0 ≡ pending w vs m (0 * w) 0
@@ -118,15 +113,13 @@ unfolding pending
 none-pending w vs m = rw (zero-mul w, mod-one (lane_of 32 w vs m))
 
 -- before the first row the lanes hold nothing
-pub none-held : (w : ℕ) (vs : List ℕ) → LanesAt w 0 vs (record { a = 0; b = 0; c = 0; d = 0; bits = 0; words = 0 })
+pub none-held : (w : ℕ) (vs : List ℕ) → LanesAt w 0 vs (record { held = replicate 4 0; bits = 0; words = 0 })
+unfolding tabulate
 none-held w vs =
     record {
       holds = record {
         packed = sym (zero-mul w);
-        in_a = none-pending w vs 0;
-        in_b = none-pending w vs 1;
-        in_c = none-pending w vs 2;
-        in_d = none-pending w vs 3;
+        held = tabulate-same 4 (λ m. 0) _ (λ m _. none-pending w vs m);
       };
       below = lit< tt;
     }

@@ -3,8 +3,8 @@
 use mathlib.Core.Path.{◌≡◌, refl, sym, ap, ◌∙◌}
 use mathlib.Core.Bool.{true, false, and-eq-true_iff}
 use mathlib.Core.List.{List, ◌++◌, map}
-use Prim.Native.Nat.{ℕ, ◌*◌, ◌≤◌, ◌<◌}
-use borrow.Author.Tests.{leb-true, lt-leb, le-leb}
+use Prim.Native.Nat.{ℕ, ◌*◌, ◌≤◌}
+use borrow.Author.Tests.{leb-true, le-leb}
 use lib.ListN.{length, drop}
 use lib.Dec.{leb}
 use Rattle.format.specs.Basics.{choose, put_at}
@@ -12,10 +12,6 @@ use Rattle.format.specs.Bitpacking.{pack, packed_at, unpack}
 use Rattle.format.proofs.Area.{put_at-front}
 use Rattle.format.proofs.Bitpacking.{pack-length}
 use Rattle.bitpacking.specs.Packed.{room_for, with_more_of, filled, Unpacked, Packed}
-
-pub too_wide : (w n : ℕ) → 32 < w → room_for w n ≡ false
-unfolding room_for
-too_wide w n h = rw (lt-leb w 32 h)
 
 pub narrow : (w n : ℕ) → w ≤ 32 → room_for w n ≡ leb (16 * w) n
 unfolding room_for

@@ -2,12 +2,12 @@
 --     lowest         the lowest of some bits
 --     upper          .. and those above them
 -- .. on words of 32 bits
---     joined         a value of two parts, put together by a shift, `|` and a mask
---     mask_ones      the mask of w ones
+--     joined         the lowest bits of a value of two parts, put together by a shift and `|`
+--     masked_lowest  the lowest bits, by a mask of w ones
 -- .. on words of 64 bits
---     shifted_below  a value of 32 bits, shifted, has room
---     masked_shift   a value put above other bits
 --     one_shifted    one more than the mask of w ones
+--     shifted_below  a value of 32 bits, shifted, has room
+--     masked_shift   a value's lowest bits, by such a mask, put above other bits
 -- Assumes nothing.
 use mathlib.Core.Path.{◌≡◌, sym, ap, ◌∙◌}
 use Prim.Native.Nat.{ℕ, ◌+◌, ◌-◌, ◌*◌, ◌/◌, ◌%◌, ◌^◌, ◌≤◌, ◌<◌}
@@ -30,12 +30,11 @@ upper x n k h = ap (λ (i : ℕ). x % 2 ^ i / 2 ^ k) (parts n k h) ∙ field x (
 shifted_mod : (x o k : ℕ) → x * 2 ^ k % 2 ^ (o + k) ≡ x % 2 ^ o * 2 ^ k
 shifted_mod x o k = rw (mod-pow-add (x * 2 ^ k) o k, shl-shr x k, mul-mod_left x (2 ^ k)) (add-zero _)
 
--- what the shift drops lies above the mask
+-- what the shift drops lies above the lowest bits
 pub joined :
-    (w bits low up : ℕ) → w ≤ 32 → bits < 32 → low < 2 ^ bits
-    → bit_and (bit_or low (up * 2 ^ bits % 2 ^ 32)) (2 ^ w - 1) ≡ (low + up * 2 ^ bits) % 2 ^ w
+    (w bits low up : ℕ) → w ≤ 32 → bits < 32 → low < 2 ^ bits → bit_or low (up * 2 ^ bits % 2 ^ 32) % 2 ^ w ≡ (low + up * 2 ^ bits) % 2 ^ w
 joined w bits low up hw hb h =
-    rw (and_mask (bit_or low (x % 2 ^ 32)) w, sum)
+    rw sum
     (sym (mod-add-mod (x % 2 ^ 32) (2 ^ w) low)
     ∙ ap (λ (y : ℕ). (y + low) % 2 ^ w) (lowest x 32 w hw)
     ∙ mod-add-mod x (2 ^ w) low
@@ -51,11 +50,14 @@ joined w bits low up hw hb h =
     sum = rw kept (or_shifted_r (up % 2 ^ (32 - bits)) bits low h)
 
 -- w ones, left of 32 ones by a shift
-pub mask_ones : (v w : ℕ) → v + w ≡ 32 → 4294967295 / 2 ^ v ≡ 2 ^ w - 1
+mask_ones : (v w : ℕ) → v + w ≡ 32 → 4294967295 / 2 ^ v ≡ 2 ^ w - 1
 mask_ones v w e =
     ap (λ (n : ℕ). (2 ^ n - 1) / 2 ^ v) (sym e ∙ add_comm v w)
     ∙ ap (λ (n : ℕ). n / 2 ^ v) (ones_split w v)
     ∙ high (2 ^ w - 1) v (ones_lt v)
+
+pub masked_lowest : (x w : ℕ) → w ≤ 32 → bit_and x (4294967295 / 2 ^ (32 - w)) ≡ x % 2 ^ w
+masked_lowest x w h = rw (mask_ones (32 - w) w (omega arith)) (and_mask x w)
 
 -- 32 bits shifted by less than 32 stay below 2 ^ 63
 pub shifted_below : (x k : ℕ) → x < 2 ^ 32 → k < 32 → x * 2 ^ k < 2 ^ 63

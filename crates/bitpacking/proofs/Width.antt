@@ -2,16 +2,15 @@
 -- taken by `|`.
 -- Assumes nothing.
 use mathlib.Core.Path.{◌≡◌, refl, sym, ap}
-use mathlib.Core.List.{List}
+use mathlib.Core.List.{List, [], ◌∷◌}
 use Prim.Native.Nat.{ℕ, zero, suc, ◌+◌, ◌-◌, ◌/◌, ◌≤◌, ◌<◌, max}
 use native.Mathlib.Nat.{suc-add, zero-add, suc-ne-zero, eq-sub_of_add-eq}
-use native.Mathlib.Numerals.{add-one, one-add}
+use native.Mathlib.Numerals.{one-add}
 use native.Mathlib.Omega.{arith}
 use borrow.Author.Tests.{ne_eqb}
 use lib.Bits.{bit_or, or_zero_r, or_shr, or_add_and, and_le_r}
 use lib.Count.{count_leading_zeros}
-use lib.ListN.{length, get_or, drop, drop_of_length-le}
-use lib.Seq.{drop-cons}
+use Rattle.std.specs.List.{fold}
 use Rattle.format.specs.Bitpacking.{bits_f, largest, width}
 
 pub bits-and-zeros : (f n : ℕ) → bits_f f n + count_leading_zeros f n ≡ f
@@ -58,19 +57,12 @@ bits-max = bits_joint max (λ b. omega arith) (λ a. omega arith) (λ a b. omega
 bits-or : (f a b : ℕ) → bits_f f (bit_or a b) ≡ max (bits_f f a) (bits_f f b)
 bits-or = bits_joint bit_or (λ b. refl) or_zero_r (λ a b. omega (arith, or_add_and a b, and_le_r a b)) (λ a b. or_shr a b 1)
 
--- the bits so far and those of the largest from i on are, with the bits of element i taken, those of the largest from i + 1 on
-pub bits-next :
-    (vs : List ℕ) (i any : ℕ) → i < length vs
-    → max (bits_f 32 any) (bits_f 32 (largest (drop i vs))) ≡ max (bits_f 32 (bit_or any (get_or vs i 0))) (bits_f 32 (largest (drop (i + 1) vs)))
+-- any of some numbers, taken one after another
+bits-folded : (vs : List ℕ) (any : ℕ) → bits_f 32 (fold bit_or any vs) ≡ max (bits_f 32 any) (bits_f 32 (largest vs))
 unfolding largest
-bits-next vs i any h =
-    rw (add-one, drop-cons vs i 0 h, bits-max 32 (get_or vs i 0) (largest (drop (suc i) vs)), bits-or 32 any (get_or vs i 0)) (omega arith)
+bits-folded [] any = rw (bits_none 32) (omega arith)
+bits-folded (v ∷ vs) any = rw (bits-folded vs (bit_or any v), bits-or 32 any v, bits-max 32 v (largest vs)) (omega arith)
 
--- past the end nothing is left
-pub bits-end : (vs : List ℕ) (i any : ℕ) → length vs ≤ i → max (bits_f 32 any) (bits_f 32 (largest (drop i vs))) ≡ bits_f 32 any
-unfolding largest
-bits-end vs i any h = rw (drop_of_length-le vs h, bits_none 32) (omega arith)
-
-pub width_is : (vs : List ℕ) → bits_f 32 (largest vs) ≡ width vs
+pub bits_of_all : (vs : List ℕ) → bits_f 32 (fold bit_or 0 vs) ≡ width vs
 unfolding width
-width_is vs = refl
+bits_of_all vs = rw (bits-folded vs 0, bits_none 32) (omega arith)

@@ -8,11 +8,12 @@ use mathlib.Core.List.{List}
 use mathlib.Core.Logic.{◌↔◌}
 use mathlib.Core.Path.{◌≡◌, refl}
 use Prim.Native.Nat.{ℕ, zero, suc, ◌+◌, ◌-◌, ◌*◌, ◌/◌, min, ◌≤◌, ◌<◌}
-use native.Mathlib.Nat.{le-div_iff_mul-le, div-lt_iff_lt-mul}
+use native.Mathlib.Nat.{le-div_iff_mul-le}
 use native.Mathlib.Numerals.{add-one}
 use native.Mathlib.Omega.{arith, by_contra}
-use borrow.Author.Tests.{ltb-true, ltb-false, lt-ltb, le-ltb, leb-true, leb-false}
+use borrow.Author.Tests.{le-ltb, leb-true, leb-false}
 use lib.Dec.{ltb, leb}
+use Rattle.std.proofs.lemmas.Bool.Decides.{nat_tests}
 use lib.ListN.{length, get_or, get_or-eq_default}
 use mir.Val.{bool_byte}
 use Rattle.format.specs.Counts.{count_below}
@@ -37,25 +38,13 @@ module _ (arr : List ℕ) (target base step : ℕ) where
   pivots_more n = rw add-one
 
 same_test : (a b c d : ℕ) → a < b ↔ c < d → ltb a b ≡ ltb c d
-same_test a b c d iff = by_test (ltb c d) refl
-  where
-    by_test : (t : Bool) → ltb c d ≡ t → ltb a b ≡ t
-    by_test true e = lt-ltb a b (iff.1 (ltb-true c d e))
-    by_test false e = le-ltb a b (by_contra b a (λ h. omega (arith, iff.0 h, ltb-false c d e)))
+same_test a b c d iff = grind (arith, nat_tests)
 
 -- a quotient capped at n grows with its cap exactly where the next segment ends below c
 min-div-suc : (c base step n : ℕ) → 0 < step →
     min n ((c - base) / step) + bool_byte (ltb (base + suc n * step - 1) c) ≡ min (suc n) ((c - base) / step)
-min-div-suc c base step n pos = by_test (ltb (base + suc n * step - 1) c) refl
-  where
-    by_test : (t : Bool) → ltb (base + suc n * step - 1) c ≡ t →
-        min n ((c - base) / step) + bool_byte t ≡ min (suc n) ((c - base) / step)
-    by_test true e =
-        let q : suc n ≤ (c - base) / step = (le-div_iff_mul-le pos).1 (omega (arith, ltb-true (base + suc n * step - 1) c e)) in
-        omega arith
-    by_test false e =
-        let q : (c - base) / step < suc n = (div-lt_iff_lt-mul pos).1 (omega (arith, ltb-false (base + suc n * step - 1) c e)) in
-        omega arith
+min-div-suc c base step n pos =
+    grind (arith, nat_tests, le-div_iff_mul-le {x = suc n} {y = c - base} pos)
 
 pub pivots_quotient : (arr : List ℕ) (target : ℕ) → NeverFalls arr → (base step : ℕ) → 0 < step → (n : ℕ) → base + n * step ≤ length arr →
     pivots_below_of arr target base step n ≡ min n ((count_below target arr - base) / step)

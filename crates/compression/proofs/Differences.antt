@@ -12,12 +12,11 @@ use native.Mathlib.Omega.{arith}
 use lib.Dec.{leb, ltb}
 use lib.ListN.{length, take, drop}
 use borrow.Author.Tests.{le-leb, lt-leb, lt-ltb, leb-true, ltb-true, ltb-false, ne_eqb}
-use Rattle.format.specs.Basics.{choose, last_of, TERMINATED}
+use Rattle.format.specs.Basics.{Outcome, ask, choose, last_of, TERMINATED}
 use Rattle.format.specs.Model.{member}
 use Rattle.format.specs.Values.{ids_from, ids, restored, rising, reduction, origin}
 use Rattle.format.proofs.Lists.{AllBelow-le}
 use Rattle.format.proofs.Values.{rising-below}
-use Rattle.compression.specs.declared.values.Restored.{Restored}
 use Rattle.compression.specs.Restored.{ids_behind, differences_rise, first_difference_of, as_differences, risen, in_place, ending, sums_behind, found_zero, DocsRestored}
 use Rattle.compression.proofs.Frequencies.{kept-below}
 
@@ -199,11 +198,11 @@ sums_are (suc before) (d ∷ ds) h = rw add-one at (sym (plain-same before (d �
 
 -- .. and question 6 is answered by the last one
 ends_as : (least : ℕ) (ds : List ℕ) → member 0 ds ≡ false → ending (last_of 0 (ids_behind least ds)) ≡ risen least ds
-unfolding ending risen choose ids_behind differences_rise last_of
+unfolding ending risen ask ids_behind differences_rise last_of
 ends_as least [] h = refl
 ends_as least (d ∷ ds) h = rw (differences_rise-last 0 least (d ∷ ds) (zero-lt-suc _) h)
 
-module _ {least n : ℕ} {nonzero : Bool} {entry exit : List ℕ} {answer : Restored} (r : DocsRestored least n nonzero entry exit answer)
+module _ {least n : ℕ} {nonzero : Bool} {entry exit : List ℕ} {answer : Outcome ℕ} (r : DocsRestored least n nonzero entry exit answer)
     (known : nonzero ≡ true → member 0 (take n entry) ≡ false) where
   abbrev ds : List ℕ
   ds = take n entry
@@ -222,7 +221,7 @@ module _ {least n : ℕ} {nonzero : Bool} {entry exit : List ℕ} {answer : Rest
   finds_none none = rw none (and-false (not nonzero))
 
   pub restored-answers : answer ≡ risen least ds
-  unfolding choose risen
+  unfolding ask choose risen
   restored-answers = go (member 0 ds) refl
     where
       go : (t : Bool) → member 0 ds ≡ t → answer ≡ risen least ds

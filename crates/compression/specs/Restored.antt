@@ -1,9 +1,8 @@
 -- What restoring a block's values in place answers and leaves.
 -- Assumes nothing.
-use Rattle.std.specs.Prelude.{◌≡◌, Bool, true, not, ◌&&◌ as and, List, [], ◌∷◌, ◌++◌, map, ℕ, zero, suc, ◌+◌, ◌-◌, ◌%◌, ◌^◌, leb, ltb, take, drop}
-use Rattle.compression.specs.declared.values.Restored.{Restored}
-use Rattle.compression.specs.declared.values.Restored.TheVariants.{Rising, NotRising}
-use Rattle.format.specs.Basics.{choose, last_of, TERMINATED}
+use Rattle.std.specs.Prelude.{◌≡◌, Bool, true, not, ◌&&◌ as and, List, [], ◌∷◌, ◌++◌, map, ℕ, zero, suc, ◌+◌, ◌-◌, ◌%◌, ◌^◌, leb, ltb, take, drop, Ok, Err}
+use Rattle.format.specs.declared.refusal.Refusal.TheVariants.{DocsNotRising}
+use Rattle.format.specs.Basics.{Outcome, ask, choose, last_of, TERMINATED}
 use Rattle.format.specs.Model.{member}
 use Rattle.format.specs.Values.{ids_from}
 
@@ -33,9 +32,9 @@ as_differences zero (v ∷ vs) = first_difference_of v ∷ vs
 as_differences (suc least) (v ∷ vs) = v ∷ vs
 
 -- its answer: the last id, 0 where there is none; or that it is a no
-unfoldable pub risen : ℕ → List ℕ → Restored
-unfolding choose last_of differences_rise ids_behind
-risen least ds = choose (differences_rise least ds) (λ _. Rising (last_of 0 (ids_behind least ds))) (λ _. NotRising)
+unfoldable pub risen : ℕ → List ℕ → Outcome ℕ
+unfolding ask last_of differences_rise ids_behind
+risen least ds = ask (differences_rise least ds) DocsNotRising λ _. Ok (last_of 0 (ids_behind least ds))
 
 -- ---- in place
 
@@ -50,9 +49,9 @@ pub record Summed (before n : ℕ) (entry exit : List ℕ) (last : ℕ) : Type 0
   pub left : exit ≡ in_place n (ids_from 0 before (take n entry)) entry
 
 -- `ending`: question 6 of ids of which no two are the same, by the last one
-unfoldable pub ending : ℕ → Restored
-unfolding choose
-ending last = choose (ltb last TERMINATED) (λ _. Rising last) (λ _. NotRising)
+unfoldable pub ending : ℕ → Outcome ℕ
+unfolding ask
+ending last = ask (ltb last TERMINATED) DocsNotRising λ _. Ok last
 
 -- the ids of differences as sums on top of the id before, of which a list's first has none
 unfoldable pub sums_behind : ℕ → List ℕ → List ℕ
@@ -68,6 +67,6 @@ found_zero nonzero ds = and (not nonzero) (member 0 ds)
 
 -- `restore_docs`: where a 0 is found nothing is written. Else the sums are, whatever they come to; the last of them answers. Where the
 -- caller ruled out a 0 only if there is none, the answer is `risen`; and where that is a yes the sums are the ids (proofs/Differences.antt)
-pub record DocsRestored (least n : ℕ) (nonzero : Bool) (entry exit : List ℕ) (answer : Restored) : Type 0 where
-  pub answered : answer ≡ choose (found_zero nonzero (take n entry)) (λ _. NotRising) (λ _. ending (last_of 0 (sums_behind least (take n entry))))
+pub record DocsRestored (least n : ℕ) (nonzero : Bool) (entry exit : List ℕ) (answer : Outcome ℕ) : Type 0 where
+  pub answered : answer ≡ choose (found_zero nonzero (take n entry)) (λ _. Err DocsNotRising) (λ _. ending (last_of 0 (sums_behind least (take n entry))))
   pub left : exit ≡ choose (found_zero nonzero (take n entry)) (λ _. entry) (λ _. in_place n (sums_behind least (take n entry)) entry)

@@ -10,19 +10,18 @@ ghost use Rattle.skip.specs.Entry.{entry_at, entry_put, entry_next};
 
 use common::{put, u32_from_le_bytes, u32_to_le_bytes, within};
 use compression::compressed_block_size;
-use format::{BlockInfo, IndexRecordOption, Next, TERMINATED};
+use format::{BlockInfo, IndexRecordOption, TERMINATED};
 
 // Whether blocks and entries hold frequencies.
+#[tactic(auto, unfolding(format::specs::SkipEntry::has_freq_of))]
 pub fn has_freq(option: IndexRecordOption) -> bool
     ensures { result ≡ has_freq_of option }
 {
-    match option {
-        IndexRecordOption::Basic => false,
-        IndexRecordOption::WithFreqs => true,
-    }
+    matches!(option, IndexRecordOption::WithFreqs)
 }
 
 // The bytes of an entry.
+#[tactic(auto, unfolding(format::specs::SkipEntry::entry_size_of))]
 pub fn entry_size(option: IndexRecordOption) -> usize
     ensures { result ≡ entry_size_of option }
 {
@@ -33,6 +32,7 @@ pub fn entry_size(option: IndexRecordOption) -> usize
 }
 
 // Question 1 of document 01 of a recorded mode.
+#[tactic(auto, unfolding(format::specs::Accepted::known_mode_of))]
 pub fn known_mode(mode: u8) -> bool
     ensures { result ≡ known_mode_of mode }
 {
@@ -40,6 +40,7 @@ pub fn known_mode(mode: u8) -> bool
 }
 
 // What a list of this mode keeps, by whether its frequencies are recorded.
+#[tactic(auto, unfolding(format::specs::Accepted::kept_in, format::specs::Basics::choose))]
 pub fn record_option(mode: u8, recording: bool) -> IndexRecordOption
     ensures { result ≡ kept_in mode recording }
 {
@@ -48,13 +49,6 @@ pub fn record_option(mode: u8, recording: bool) -> IndexRecordOption
     } else {
         IndexRecordOption::Basic
     }
-}
-
-// What stands at a place of the skip bytes: an entry, or too few bytes for one.
-#[derive(Clone, Copy)]
-pub enum SkipEntry {
-    Entry(BlockInfo),
-    Missing,
 }
 
 // The 32-bit number at place `at`.
@@ -66,6 +60,7 @@ fn read_u32(bytes: &[u8], at: usize) -> u32
 }
 
 // The frequency width of the entry at place `at`, 0 where there are no frequencies.
+#[tactic(auto, unfolding(format::specs::SkipEntry::freq_width_of, format::specs::SkipEntry::entry_size_of))]
 fn read_freq_width(option: IndexRecordOption, skips: &[u8], at: usize) -> u8
     requires { at + entry_size_of option ≤ length skips.now }
     ensures { result ≡ freq_width_of option (drop at skips.now) }
@@ -77,6 +72,7 @@ fn read_freq_width(option: IndexRecordOption, skips: &[u8], at: usize) -> u8
 }
 
 // The entry at place `at`, which is within the bytes.
+#[tactic(auto, unfolding(format::specs::SkipEntry::read_entry, format::specs::SkipEntry::entry_size_of, format::specs::Basics::word,))]
 fn read_block_info(option: IndexRecordOption, skips: &[u8], at: usize) -> BlockInfo
     requires { at + entry_size_of option ≤ length skips.now }
     ensures { result ≡ read_entry option (drop at skips.now) }
@@ -90,69 +86,62 @@ fn read_block_info(option: IndexRecordOption, skips: &[u8], at: usize) -> BlockI
     }
 }
 
-// The entry at place `at`.
-pub fn read_entry(option: IndexRecordOption, skips: &[u8], at: usize) -> SkipEntry
+// The entry at place `at`, where there are bytes enough for one.
+#[tactic(auto, unfolding(crate::specs::Entry::entry_at, format::specs::Basics::choose))]
+pub fn read_entry(option: IndexRecordOption, skips: &[u8], at: usize) -> Option<BlockInfo>
     ensures { result ≡ entry_at option skips.now at }
 {
     if within(at, entry_size(option), skips.len()) {
-        SkipEntry::Entry(read_block_info(option, skips, at))
+        Some(read_block_info(option, skips, at))
     } else {
-        SkipEntry::Missing
+        None
     }
 }
 
 // The document width, with the bit of a strict block.
+#[tactic(auto, unfolding(format::specs::SkipEntry::width_byte_of, format::specs::Basics::choose))]
 fn width_byte(info: BlockInfo) -> u8
     requires { info.doc_width < 32 }
     ensures { result ≡ width_byte_of info }
 {
-    if info.strict {
-        info.doc_width + 64
-    } else {
-        info.doc_width
-    }
+    info.doc_width + if info.strict { 64 } else { 0 }
 }
 
 // Writes an entry at place `at`. Where the document width has more than its five bits, or the entry doesn't fit, nothing is written.
-pub fn write_entry(option: IndexRecordOption, info: BlockInfo, area: &mut [u8], at: usize) -> Next
+#[tactic(auto, unfolding(crate::specs::Entry::entry_put, crate::specs::Entry::entry_next, format::specs::Basics::choose, format::specs::Basics::le32, format::specs::SkipEntry::write_entry_of, format::specs::SkipEntry::entry_size_of, format::specs::SkipEntry::freq_part,))]
+pub fn write_entry(
+    option: IndexRecordOption,
+    info: BlockInfo,
+    area: &mut [u8],
+    at: usize,
+) -> Option<usize>
     ensures next { result ≡ entry_next option info at area.old }
     ensures area { area.new ≡ entry_put option info at area.old }
 {
     if 32 <= info.doc_width {
-        return Next::Refused;
+        return None;
     }
-    let last = u32_to_le_bytes(info.last_doc);
-    let width = width_byte(info);
-    let freq_width = info.freq_width;
-    let bytes = [last[0], last[1], last[2], last[3], width, freq_width, 0, 0];
-    let size = entry_size(option);
-    put(&bytes[..size], area, at)
+    let [a, b, c, d] = u32_to_le_bytes(info.last_doc);
+    let bytes = [a, b, c, d, width_byte(info), info.freq_width, 0, 0];
+    put(&bytes[..entry_size(option)], area, at)
 }
 
 // The bytes of the entry's block. The widths of an entry that was read and fits make at most 63 together; those of others may make
-// more than a byte holds.
+// more than a byte holds, so each is counted apart.
+#[tactic(auto, unfolding(format::specs::SkipEntry::block_size_of))]
 pub fn block_size(info: BlockInfo) -> usize
     ensures { result ≡ block_size_of info }
 {
-    if info.doc_width <= 255 - info.freq_width {
-        compressed_block_size(info.doc_width + info.freq_width)
-    } else {
-        compressed_block_size(info.doc_width) + compressed_block_size(info.freq_width)
-    }
+    compressed_block_size(info.doc_width) + compressed_block_size(info.freq_width)
 }
 
 // Question 5 of document 01: whether an entry may stand behind ids below `least`, with `left` posting bytes from its block on.
+#[tactic(auto, unfolding(format::specs::SkipEntry::entry_fits_of))]
 pub fn entry_fits(info: BlockInfo, least: u32, left: usize) -> bool
     ensures { result ≡ entry_fits_of least left info }
 {
-    if 32 < info.freq_width {
-        return false;
-    }
-    if info.last_doc < least {
-        return false;
-    }
-    if TERMINATED <= info.last_doc {
-        return false;
-    }
-    block_size(info) <= left
+    info.freq_width <= 32
+        && least <= info.last_doc
+        && info.last_doc < TERMINATED
+        && block_size(info) <= left
 }

@@ -1,6 +1,7 @@
 -- A reader that fills a slice with a tail's numbers, place after place. What it keeps: the numbers still to come, read from here,
 -- give the answer and leave the slice that all of them give and leave. `whole` is all of them, `rest` those still to come.
 -- Assumes nothing.
+use Rattle.std.specs.Prelude.{None, Some}
 use mathlib.Core.Path.{◌≡◌, refl, ◌∙◌}
 use mathlib.Core.List.{List}
 use Prim.Native.Nat.{ℕ, suc, ◌+◌, ◌-◌, ◌≤◌, ◌<◌}
@@ -9,8 +10,6 @@ use native.Mathlib.Numerals.{add-one}
 use native.Mathlib.Omega.{arith}
 use lib.ListN.{length, set, drop, length-set}
 use lib.Seq.{sets, sets-eq, drop-drop}
-use Rattle.format.specs.declared.Next.TheVariants.{At, Refused}
-use Rattle.format.specs.declared.VInt.TheVariants.{Number, Malformed}
 use Rattle.format.specs.Basics.{choose}
 use Rattle.format.specs.Vint.{Numbers, in_front, tail_number, tail_numbers}
 use Rattle.format.proofs.VintCode.{tail_numbers-suc}
@@ -36,7 +35,7 @@ module _ (src : List ℕ) (n i next : ℕ) where
       let one : n - i ≡ suc (n - (i + 1)) = omega arith in
       rw (one, tail_numbers-suc) (simp drop-drop)
 
-  pub filling_next : {whole : Numbers} {at : ℕ} {slice₀ slice : List ℕ} {value used : ℕ} → i < n → tail_number (drop next src) ≡ Number value used
+  pub filling_next : {whole : Numbers} {at : ℕ} {slice₀ slice : List ℕ} {value used : ℕ} → i < n → tail_number (drop next src) ≡ Some (value, used)
       → Filling whole (tail_numbers (n - i) (drop next src)) at next i slice₀ slice
       → Filling whole (tail_numbers (n - (i + 1)) (drop (next + used) src)) at (next + used) (i + 1) slice₀ (set slice i value)
   unfolding behind in_front
@@ -46,13 +45,13 @@ module _ (src : List ℕ) (n i next : ℕ) where
     left = rw (add-one i) (rw (step h, e, add-one i) at f.left);
   }
 
-  pub filling_malformed : {whole : Numbers} {at : ℕ} {slice₀ slice : List ℕ} → i < n → tail_number (drop next src) ≡ Malformed
-      → Filling whole (tail_numbers (n - i) (drop next src)) at next i slice₀ slice → (Refused ≡ behind at whole) × (slice ≡ filled whole slice₀)
+  pub filling_malformed : {whole : Numbers} {at : ℕ} {slice₀ slice : List ℕ} → i < n → tail_number (drop next src) ≡ None
+      → Filling whole (tail_numbers (n - i) (drop next src)) at next i slice₀ slice → (None ≡ behind at whole) × (slice ≡ filled whole slice₀)
   unfolding behind choose in_front
   filling_malformed h e f = (rw (step h, e) at f.answer, rw (step h, e) at f.left)
 
   pub filling_end : {whole : Numbers} {at : ℕ} {slice₀ slice : List ℕ} → n ≤ i → Filling whole (tail_numbers (n - i) (drop next src)) at next i slice₀ slice
-      → (At next ≡ behind at whole) × (slice ≡ filled whole slice₀)
+      → (Some next ≡ behind at whole) × (slice ≡ filled whole slice₀)
   unfolding behind choose tail_numbers
   filling_end h f =
       let none : n - i ≡ 0 = sub-eq-zero_of_le h in

@@ -1,15 +1,13 @@
 -- What reading as many of a tail's numbers as a slice has places answers and leaves.
 -- Assumes nothing.
-use Rattle.std.specs.Prelude.{List, ◌++◌, ℕ, ◌+◌, length, drop}
-use Rattle.format.specs.declared.Next.{Next}
-use Rattle.format.specs.declared.Next.TheVariants.{At, Refused}
+use Rattle.std.specs.Prelude.{List, ◌++◌, ℕ, ◌+◌, length, drop, Option, None, Some}
 use Rattle.format.specs.Basics.{choose}
 use Rattle.format.specs.Vint.{Numbers}
 
 -- the place behind numbers read from `at` on, if all were there
-unfoldable pub behind : ℕ → Numbers → Next
+unfoldable pub behind : ℕ → Numbers → Option ℕ
 unfolding choose
-behind at ns = choose ns.complete (λ _. At (at + ns.used)) (λ _. Refused)
+behind at ns = choose ns.complete (λ _. Some (at + ns.used)) (λ _. None)
 
 -- the values read, before a malformed number too, at the front of the slice; the rest of it as before
 unfoldable pub filled : Numbers → List ℕ → List ℕ

@@ -8,57 +8,51 @@ ghost use Rattle.format.specs.Basics.{next_at, put_at};
 ghost use Rattle.format.specs.Values.{gaps_from};
 ghost use Rattle.format.specs.Vint.{read_vint_of, skip_length, tail_number, tail_numbers, vint, vints};
 ghost use Rattle.vint.specs.Numbers.{behind, filled};
+ghost use Rattle.vint.specs.Written.{number_written, numbers_written};
 
-use common::{difference, within};
-use format::{Next, VInt};
+use common::within;
 
 // The bit that marks a number's last byte.
 const STOP_BIT: u8 = 128;
 
 // The number at `at`, of at most `most` bytes and at most `largest`. A group that would carry the value above `largest` ends the
-// reading before it is added, so that no bit is lost at the upper end.
-fn read_vint(src: &[u8], at: usize, most: usize, largest: u64) -> VInt
+// reading before it is added, so that no bit is lost at the upper end. By places: over a slice cut to `most` bytes a tail took some 9 % longer.
+fn read_vint(src: &[u8], at: usize, most: usize, largest: u64) -> Option<(u64, usize)>
     requires { most ≤ 10 }
     ensures { result ≡ read_vint_of most (largest + 1) (drop at src.now) }
 {
+    let bytes = src.get(at..)?;
     let mut value: u64 = 0;
-    let mut used: usize = 0;
-    let mut i = at;
-    while used < most {
-        if src.len() <= i {
-            return VInt::Malformed;
-        }
-        let byte = src[i];
+    for used in 0..most {
+        let byte = *bytes.get(used)?;
         let group = (byte % STOP_BIT) as u64;
         let shift = 7 * used;
         if (largest - value) >> shift < group {
-            return VInt::Malformed;
+            return None;
         }
         value += group << shift;
-        used += 1;
-        i += 1;
         if STOP_BIT <= byte {
-            return VInt::Number { value, used };
+            return Some((value, used + 1));
         }
     }
-    VInt::Malformed
+    None
 }
 
 // A tail's number.
-pub fn read_vint_u32(src: &[u8], at: usize) -> VInt
+pub fn read_vint_u32(src: &[u8], at: usize) -> Option<(u64, usize)>
     ensures { result ≡ tail_number (drop at src.now) }
 {
-    read_vint(src, at, 5, 4294967295)
+    read_vint(src, at, 5, u32::MAX as u64)
 }
 
 // A skip length.
-pub fn read_vint_u64(src: &[u8], at: usize) -> VInt
+pub fn read_vint_u64(src: &[u8], at: usize) -> Option<(u64, usize)>
     ensures { result ≡ skip_length (drop at src.now) }
 {
-    read_vint(src, at, 10, 18446744073709551615)
+    read_vint(src, at, 10, u64::MAX)
 }
 
-// How many bytes `value` takes.
+// How many bytes `value` takes. The value says where the loop ends, and no range or slice.
 pub fn vint_size(value: u64) -> usize
     ensures { result ≡ length (vint value) }
 {
@@ -71,7 +65,7 @@ pub fn vint_size(value: u64) -> usize
     size
 }
 
-// The bytes of `value`, which fit, from `at` on; the place behind them.
+// The bytes of `value`, which fit, from `at` on; the place behind them. The loop counts it, since the value says where it ends, and no slice.
 fn put_vint(value: u64, dst: &mut [u8], at: usize) -> usize
     requires { at + length (vint value) ≤ length dst.old }
     ensures value { result ≡ at + length (vint value) }
@@ -89,87 +83,103 @@ fn put_vint(value: u64, dst: &mut [u8], at: usize) -> usize
 }
 
 // The bytes of `value` from `at` on, where they fit.
-pub fn write_vint(value: u64, dst: &mut [u8], at: usize) -> Next
+pub fn write_vint(value: u64, dst: &mut [u8], at: usize) -> Option<usize>
     ensures value { result ≡ next_at at (vint value) dst.old }
     ensures dst_after { dst.new ≡ put_at at (vint value) dst.old }
 {
     if !within(at, vint_size(value), dst.len()) {
-        return Next::Refused;
+        return None;
     }
-    Next::At(put_vint(value, dst, at))
+    Some(put_vint(value, dst, at))
+}
+
+// What is written of a value: of sorted ones the difference to the one before, of others the value itself.
+fn written_number<const SORTED: bool>(previous: u32, value: u32) -> u32
+    ensures { result ≡ number_written SORTED previous value }
+{
+    if SORTED {
+        value.saturating_sub(previous)
+    } else {
+        value
+    }
+}
+
+// How many bytes the numbers of `values` take; of sorted ones the first differs from `offset`.
+fn size_of<const SORTED: bool>(values: &[u32], offset: u32) -> usize
+    ensures { result ≡ length (vints (numbers_written SORTED offset values.now)) }
+{
+    let mut size = 0;
+    let mut previous = offset;
+    for &value in values {
+        size += vint_size(written_number::<SORTED>(previous, value) as u64);
+        previous = value;
+    }
+    size
+}
+
+// The numbers of `values` from `at` on, where all of them fit.
+fn compress<const SORTED: bool>(
+    values: &[u32],
+    offset: u32,
+    dst: &mut [u8],
+    at: usize,
+) -> Option<usize>
+    ensures value { result ≡ next_at at (vints (numbers_written SORTED offset values.now)) dst.old }
+    ensures dst_after { dst.new ≡ put_at at (vints (numbers_written SORTED offset values.now)) dst.old }
+{
+    if !within(at, size_of::<SORTED>(values, offset), dst.len()) {
+        return None;
+    }
+    let mut next = at;
+    let mut previous = offset;
+    for &value in values {
+        next = put_vint(written_number::<SORTED>(previous, value) as u64, dst, next);
+        previous = value;
+    }
+    Some(next)
 }
 
 // How many bytes the differences of `docs` take, the first from `offset`.
 pub fn sorted_size(docs: &[u32], offset: u32) -> usize
     ensures { result ≡ length (vints (gaps_from 0 offset docs.now)) }
 {
-    let mut size = 0;
-    let mut previous = offset as u64;
-    for i in 0..docs.len() {
-        let doc = docs[i];
-        size += vint_size(difference(doc, previous) as u64);
-        previous = doc as u64;
-    }
-    size
+    size_of::<true>(docs, offset)
 }
 
 // How many bytes `values` take.
 pub fn unsorted_size(values: &[u32]) -> usize
     ensures { result ≡ length (vints values.now) }
 {
-    let mut size = 0;
-    for i in 0..values.len() {
-        size += vint_size(values[i] as u64);
-    }
-    size
+    size_of::<false>(values, 0)
 }
 
 // The differences of `docs`, the first from `offset`, from `at` on, where all of them fit.
-pub fn compress_sorted(docs: &[u32], offset: u32, dst: &mut [u8], at: usize) -> Next
+pub fn compress_sorted(docs: &[u32], offset: u32, dst: &mut [u8], at: usize) -> Option<usize>
     ensures value { result ≡ next_at at (vints (gaps_from 0 offset docs.now)) dst.old }
     ensures dst_after { dst.new ≡ put_at at (vints (gaps_from 0 offset docs.now)) dst.old }
 {
-    if !within(at, sorted_size(docs, offset), dst.len()) {
-        return Next::Refused;
-    }
-    let mut next = at;
-    let mut previous = offset as u64;
-    for i in 0..docs.len() {
-        let doc = docs[i];
-        next = put_vint(difference(doc, previous) as u64, dst, next);
-        previous = doc as u64;
-    }
-    Next::At(next)
+    compress::<true>(docs, offset, dst, at)
 }
 
 // `values` from `at` on, where all of them fit.
-pub fn compress_unsorted(values: &[u32], dst: &mut [u8], at: usize) -> Next
+pub fn compress_unsorted(values: &[u32], dst: &mut [u8], at: usize) -> Option<usize>
     ensures value { result ≡ next_at at (vints values.now) dst.old }
     ensures dst_after { dst.new ≡ put_at at (vints values.now) dst.old }
 {
-    if !within(at, unsorted_size(values), dst.len()) {
-        return Next::Refused;
-    }
-    let mut next = at;
-    for i in 0..values.len() {
-        next = put_vint(values[i] as u64, dst, next);
-    }
-    Next::At(next)
+    compress::<false>(values, 0, dst, at)
 }
 
 // As many numbers, from `at` on, as `values` has places. Those before a malformed one are stored too.
-pub fn uncompress_unsorted(src: &[u8], at: usize, values: &mut [u32]) -> Next
+pub fn uncompress_unsorted(src: &[u8], at: usize, values: &mut [u32]) -> Option<usize>
     ensures value { result ≡ behind at (tail_numbers (length values.old) (drop at src.now)) }
     ensures values_after { values.new
         ≡ filled (tail_numbers (length values.old) (drop at src.now)) values.old }
 {
     let mut next = at;
-    for i in 0..values.len() {
-        let VInt::Number { value, used } = read_vint_u32(src, next) else {
-            return Next::Refused;
-        };
-        values[i] = value as u32;
+    for value in values.iter_mut() {
+        let (number, used) = read_vint_u32(src, next)?;
+        *value = number as u32;
         next += used;
     }
-    Next::At(next)
+    Some(next)
 }

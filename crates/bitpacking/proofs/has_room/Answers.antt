@@ -1,10 +1,12 @@
--- `bitpacking::has_room` meets its contract: each way out is one of the two tests.
-use Rattle.std.proofs.Common.{sym}
-use Rattle.bitpacking.proofs.Room.{too_wide, narrow}
+-- `bitpacking::has_room` meets its contract, whose definition has the same two tests.
+use Rattle.std.proofs.Common.{rules}
+use Rattle.bitpacking.specs.Packed.{room_for}
 use Rattle.bitpacking.proofs.has_room.Goals as goal
 
-pub returns-then-w-gt32 : goal.returns-then-w-gt32
-returns-then-w-gt32 c = sym (too_wide _ _ c.if-w-gt32.true)
+pub returns-then-w-le32 : goal.returns-then-w-le32
+unfolding room_for
+returns-then-w-le32 c = search rules
 
-pub returns : goal.returns
-returns c = sym (narrow _ _ c.if-w-gt32.false)
+pub returns-else-w-le32 : goal.returns-else-w-le32
+unfolding room_for
+returns-else-w-le32 c = search rules

@@ -1,7 +1,8 @@
 -- `bitpacking::pack_row` meets its contract. Where the row fills a word of each lane, the words are the block's
 -- next ones (`words_are`) and the lanes hold the rest (`taken_hold`).
-use Rattle.std.proofs.Common.{◌≡◌, sym, ap, subst, ◌∙◌, ℕ, ◌+◌, ◌*◌, ◌≤◌, arith}
+use Rattle.std.proofs.Common.{◌≡◌, sym, ap, subst, ◌∙◌, ℕ, ◌+◌, ◌*◌, ◌%◌, ◌^◌, ◌≤◌, map, arith}
 use Rattle.std.proofs.Math.Nat.{mul-le-mul_right}
+use Rattle.std.proofs.lemmas.Grind.{common_steps}
 use Rattle.format.specs.Bitpacking.{packed_at}
 use Rattle.bitpacking.specs.declared.Lanes.{Lanes}
 use Rattle.bitpacking.specs.Packed.{filled, words_taken_of, LanesAt}
@@ -24,9 +25,8 @@ returns-clause-fills c =
     let r = c.with_row-next in
     let words : c.words_taken.result.words ≡ r.result.words + 1 = ap (λ (x : Lanes). x.words) c.words_taken.ensures in
     let inside : (c.args.row + 1) * c.args.w ≤ 32 * c.args.w = mul-le-mul_right c.args.w (omega arith) in
+    let low : c.map.result ≡ map (λ (x : ℕ). x % 2 ^ 32) r.result.held = grind (arith, common_steps) in
     λ l fits same.
-    c.put_words.ensures f
-    (rw (c.low.ensures, c.low-2.ensures, c.low-3.ensures, c.low-4.ensures)
-    (words_are c.args.w n c.args.values.now r.result r.ensures.holds (omega arith)))
+    c.put_words.ensures f (rw low (words_are c.args.w n c.args.values.now r.result r.ensures.holds (omega arith)))
     l (omega arith) (same ∙ ap (λ (k : ℕ). filled (16 * k) f l) (sym r.ensures.words))
     ∙ ap (λ (k : ℕ). filled k f l) (omega arith)

@@ -1,23 +1,18 @@
 -- `bitpacking::pack_rows` meets its contract. After 32 rows the area is filled with the whole block, and nothing is left in the lanes.
-use Rattle.std.proofs.Common.{◌≡◌, refl, ap, ◌∙◌, ℕ, ◌+◌, ◌*◌, ◌-◌, ◌≤◌, arith}
+use Rattle.std.proofs.Common.{◌≡◌, refl, ap, ◌∙◌, ℕ, ◌+◌, ◌*◌, ◌≤◌, arith}
 use Rattle.std.proofs.Math.Nat.{mul-le-mul_right}
-use Rattle.std.proofs.Math.Pow.{pow_pos}
 use Rattle.format.specs.Bitpacking.{packed_at}
 use Rattle.bitpacking.specs.Packed.{filled}
 use Rattle.bitpacking.proofs.Filled.{fill_none}
 use Rattle.bitpacking.proofs.Pending.{none-held}
-use Rattle.bitpacking.proofs.Shifts.{one_shifted}
 use Rattle.bitpacking.proofs.pack_rows.Goals as goal
-
-pub overflow_sub-mask : goal.overflow_sub-mask
-overflow_sub-mask c = rw (one_shifted c.args.w c.requires.0) (pow_pos c.args.w)
 
 pub loop-row-init : goal.loop-row-init
 loop-row-init c = record { same_length = refl; lanes = none-held _ _; area = fill_none _ _ }
 
 pub pack_row-lanes-requires : goal.pack_row-lanes-requires
 pack_row-lanes-requires c = (
-  record { lanes = c.loop-row.invariant.lanes; row_below = omega arith; w_most = omega arith; ones = ap (λ (n : ℕ). n - 1) (one_shifted c.args.w c.requires.0) },
+  record { lanes = c.loop-row.invariant.lanes; row_below = omega arith; w_most = omega arith },
   omega arith,
 )
 

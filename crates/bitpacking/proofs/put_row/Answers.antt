@@ -1,9 +1,11 @@
--- `bitpacking::put_row` meets its contract: four stores, each at the next place.
-use Rattle.std.proofs.Common.{sym, ◌∙◌}
-use Rattle.bitpacking.proofs.Filled.{fill_four}
+-- `bitpacking::put_row` meets its contract as it stands.
+use Rattle.std.proofs.Common.{◌≡◌, ◌∙◌, map, arith}
+use Rattle.std.proofs.lemmas.Grind.{common_steps}
+use Rattle.bitpacking.specs.Packed.{with_more_of}
 use Rattle.bitpacking.proofs.put_row.Goals as goal
 
 pub returns : goal.returns
-returns c f is l fits same =
-    fill_four c.args.p f _ l fits (c.with_more.ensures ∙ sym is.in_a) (c.with_more-2.ensures ∙ sym is.in_b) (c.with_more-3.ensures ∙ sym is.in_c)
-    (c.with_more-4.ensures ∙ sym is.in_d) same
+unfolding with_more_of
+returns c f is =
+    let sums : c.map.result ≡ map (with_more_of c.args.more) c.args.row = grind (arith, common_steps) in
+    c.put_four.ensures f (sums ∙ is)

@@ -1,5 +1,5 @@
 -- `bitpacking::unpack` meets its contract. Values of width 0 have no bits, so that each is 0, and `more` once that is added.
-use Rattle.std.proofs.Common.{◌≡◌, sym, ap, ◌∙◌, ℕ, List, map, ◌<◌, ◌^◌, rules}
+use Rattle.std.proofs.Common.{◌≡◌, sym, ap, ◌∙◌, ℕ, List, map, ◌<◌, ◌^◌}
 use Rattle.std.proofs.Math.Nat.{pos_of_ne-zero, zero-add, mod-eq_of_lt}
 use Rattle.std.proofs.Math.ListN.{replicate}
 use Rattle.format.specs.Bitpacking.{unpack}
@@ -25,7 +25,7 @@ returns-then-not-has_room c = not_unpacked _ _ _ _ (sym c.has_room.ensures ∙ c
 pub unpack_rows-requires : goal.unpack_rows-requires
 unpack_rows-requires c =
     let r = room-there _ _ (sym c.has_room.ensures ∙ c.if-not-has_room.false) in
-    record { some_bits = pos_of_ne-zero c.if-w-eq0.false; w_most = r.0; room = r.1; places = search rules }
+    record { some_bits = pos_of_ne-zero c.if-w-eq0.false; w_most = r.0; room = r.1 }
 
 pub returns-then-w-eq0 : goal.returns-then-w-eq0
 returns-then-w-eq0 c =

@@ -1,24 +1,21 @@
 -- `bitpacking::unpack_rows` meets its contract. Before the first row no bit is left, and the next words are the block's first; after
 -- 32 rows all values are filled.
-use Rattle.std.proofs.Common.{◌≡◌, refl, sym, ap, ◌∙◌, ℕ, ◌+◌, ◌*◌, ◌-◌, arith}
+use Rattle.std.proofs.Common.{◌≡◌, sym, ap, ◌∙◌, ℕ, ◌+◌, ◌*◌, arith}
 use Rattle.format.proofs.Tabulate.{tabulate-map}
 use Rattle.format.specs.Bitpacking.{unpack, unpacked_at}
 use Rattle.bitpacking.specs.Packed.{filled, more_at, with_more_of}
 use Rattle.bitpacking.proofs.Filled.{fill_none, fill_all}
-use Rattle.bitpacking.proofs.Shifts.{mask_ones}
 use Rattle.bitpacking.proofs.Rows.{none_left}
 use Rattle.bitpacking.proofs.unpack_rows.Goals as goal
 
 pub loop-row-init : goal.loop-row-init
-loop-row-init c = record { same_length = refl; left = none_left _ _; values = fill_none _ _ }
+loop-row-init c = record { left = none_left _ _; values = fill_none _ _ }
 
 pub unpack_row-left-requires : goal.unpack_row-left-requires
 unpack_row-left-requires c =
-    let w = c.args.w in
     record {
-      block = record { some_bits = c.requires.some_bits; w_most = c.requires.w_most; room = c.requires.room; places = c.loop-row.invariant.same_length ∙ c.requires.places };
+      block = record { some_bits = c.requires.some_bits; w_most = c.requires.w_most; room = c.requires.room };
       row_below = omega arith;
-      ones = mask_ones (32 - w) w (omega arith);
       left = c.loop-row.invariant.left;
     }
 
@@ -27,7 +24,6 @@ loop-row-preserved c =
     let four : 4 * c.loop-row.row + 4 ≡ 4 * (c.loop-row.row + 1) = omega arith in
     let r = c.unpack_row-left in
     record {
-      same_length = omega arith;
       left = r.ensures.left_at;
       values = rw four at (r.ensures.fills c.args.values.now (omega arith) c.loop-row.invariant.values);
     }

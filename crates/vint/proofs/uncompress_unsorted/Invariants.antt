@@ -4,6 +4,6 @@ use Rattle.format.specs.Vint.{tail_numbers}
 use Rattle.vint.proofs.Numbers.{Filling}
 use Rattle.vint.proofs.uncompress_unsorted.Given as goal
 
-abbrev pub invariant-loop-i : goal.invariant-loop-i
-invariant-loop-i l = Filling (tail_numbers (length l.initial.values) (drop l.at l.src))
-    (tail_numbers (length l.initial.values - l.i) (drop l.next l.src)) l.at l.next l.i l.initial.values l.values
+abbrev pub invariant-loop-value : goal.invariant-loop-value
+invariant-loop-value l = Filling (tail_numbers (length l.initial.values) (drop l.at l.src))
+    (tail_numbers (length l.initial.values - l.value-index) (drop l.next l.src)) l.at l.next l.value-index l.initial.values l.values

@@ -1,6 +1,6 @@
 -- `vint::write_vint` meets its contract: the size is asked first, and what fits is put.
+use Rattle.std.specs.Prelude.{Some}
 use Rattle.std.proofs.Common.{sym, ap, ◌∙◌}
-use Rattle.format.specs.declared.Next.TheVariants.{At}
 use Rattle.format.specs.Vint.{vint}
 use Rattle.format.proofs.Area.{next_at-fits}
 use Rattle.common.proofs.Fits.{fits_not, fits-room}
@@ -14,4 +14,4 @@ returns-then-not-within c =
 pub returns-clause-value : goal.returns-clause-value
 returns-clause-value c =
     let room = fits-room c.args.at _ (vint c.args.value) c.args.dst.now c.vint_size.ensures _ c.within.ensures c.if-not-within.false in
-    ap At c.put_vint.ensures.value ∙ sym (next_at-fits _ _ _ room)
+    ap Some c.put_vint.ensures.value ∙ sym (next_at-fits _ _ _ room)

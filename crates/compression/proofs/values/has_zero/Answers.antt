@@ -1,8 +1,9 @@
--- `compression::values::has_zero` meets its contract. The invariant: one of the values is 0 where one came so far or one of those to come is.
+-- `compression::values::has_zero` meets its contract: each turn asks one value more.
 -- Assumes nothing.
-use Rattle.std.proofs.Common.{◌≡◌, refl, sym, ap, ◌∙◌, Bool, true, false, ◌||◌ as or, ℕ, zero, suc, List, ◌∷◌, ◌+◌, get_or, arith, add-one}
+use Rattle.std.proofs.Common.{◌≡◌, refl, sym, ap, ◌∙◌, Bool, true, false, ◌||◌ as or, ℕ, zero, suc, List, ◌∷◌, ◌+◌, get_or, drop, take, arith, add-one}
 use mathlib.Core.Bool.{or-false}
-use Rattle.std.proofs.Math.Seq.{slice, slice-cons, slice_empty}
+use lib.ListN.{drop_of_length-le}
+use Rattle.std.proofs.Math.Seq.{drop-cons}
 use lib.Dec.{eqb}
 use borrow.Author.Tests.{ne_eqb}
 use Rattle.format.specs.Model.{member}
@@ -16,24 +17,20 @@ comes true v vs = refl
 comes false zero vs = refl
 comes false (suc v) vs = rw (ne_eqb 0 (suc v) (omega arith), ne_eqb (suc v) 0 (omega arith))
 
-pub loop-i-preserved : goal.loop-i-preserved
-loop-i-preserved c =
-    let l = c.loop-i in
-    let values : List ℕ = c.args.values.now in
-    let m : ℕ = c.smaller-m.result in
-    let first : slice l.i m values ≡ get_or values l.i 0 ∷ slice (l.i + 1) m values
-    = rw add-one (slice-cons l.i m values 0 (omega arith) (omega arith)) in
-    record {
-      within = omega arith;
-      same = l.invariant.same ∙ (ap (λ (vs : List ℕ). or l.found (member 0 vs)) first ∙ comes l.found _ _);
-    }
+pub loop-value-preserved : goal.loop-value-preserved
+loop-value-preserved c =
+    let l = c.loop-value in
+    let m : ℕ = c.min.result in
+    let items : List ℕ = take m c.args.values.now in
+    let first : drop l.value-index items ≡ get_or items l.value-index 0 ∷ drop (l.value-index + 1) items
+    = rw add-one (drop-cons items l.value-index 0 (omega arith)) in
+    l.invariant ∙ (ap (λ (vs : List ℕ). or l.found (member 0 vs)) first ∙ comes l.found _ _)
 
 pub returns : goal.returns
 unfolding member
 returns c =
-    let l = c.loop-i in
-    let values : List ℕ = c.args.values.now in
-    let m : ℕ = c.smaller-m.result in
-    let all : l.i ≡ m = omega arith in
-    sym (ap (member 0) (sym (take_clamped m c.args.n values (omega arith)))
-    ∙ (l.invariant.same ∙ rw (all, slice_empty m values) (or-false l.found)))
+    let l = c.loop-value in
+    let m : ℕ = c.min.result in
+    let items : List ℕ = take m c.args.values.now in
+    let none = drop_of_length-le items {i = l.value-index} (omega arith) in
+    sym (ap (member 0) (sym (take_clamped m c.args.n c.args.values.now (omega arith))) ∙ (l.invariant ∙ rw none (or-false l.found)))

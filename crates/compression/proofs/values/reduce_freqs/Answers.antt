@@ -1,4 +1,4 @@
--- `compression::values::reduce_freqs` meets its contract. The invariant: the values left are those of the frequencies left.
+-- `compression::values::reduce_freqs` meets its contract: each turn replaces one frequency by its value.
 -- Assumes nothing.
 use Rattle.std.proofs.Common.{◌≡◌, refl, ℕ, List, ◌∷◌, ◌-◌, arith}
 use Rattle.format.specs.Values.{reduced, reduction}
@@ -10,19 +10,13 @@ turns : (s : Unit {0}) (f : ℕ) (fs : List ℕ) → each s (f ∷ fs) ≡ (f - 
 unfolding reduced reduction
 turns s f fs = refl
 
-pub loop-i-init : goal.loop-i-init
-loop-i-init c = record { whole = omega arith; replaced = replacing_none each 128 tt 0 _ (omega arith) }
+pub loop-value-init : goal.loop-value-init
+loop-value-init c = replacing_none each tt _
 
-pub loop-i-preserved : goal.loop-i-preserved
-loop-i-preserved c =
-    let inv = c.loop-i.invariant in
-    record {
-      whole = inv.whole;
-      replaced = rw c.difference.ensures (replacing_next each (λ s f. f - 1) (λ s f. s) turns (omega arith) (omega arith) inv.replaced);
-    }
+pub loop-value-preserved : goal.loop-value-preserved
+loop-value-preserved c =
+    rw c.saturating_sub.ensures (replacing_next each (λ s f. f - 1) (λ s f. s) turns (omega arith) c.loop-value.invariant)
 
 pub returns : goal.returns
 unfolding reduced
-returns c =
-    let inv = c.loop-i.invariant in
-    replacing_all each (λ s. refl) c.loop-i-test.false inv.whole inv.replaced
+returns c = replacing_all each (λ s. refl) (omega arith) c.loop-value.invariant

@@ -1,5 +1,5 @@
--- The values left are those of the frequencies left; the measure is the frequencies left.
-use Rattle.std.proofs.Common.{◌≡◌, ◌-◌, ℕ, List, true, length}
+-- The values left are those of the frequencies left.
+use Rattle.std.proofs.Common.{ℕ, List, true}
 use Rattle.format.specs.Values.{reduced}
 use Rattle.compression.proofs.InPlace.{Replacing}
 use Rattle.compression.proofs.values.reduce_freqs.Given as goal
@@ -8,11 +8,5 @@ use Rattle.compression.proofs.values.reduce_freqs.Given as goal
 abbrev pub each : Unit {0} → List ℕ → List ℕ
 each s fs = reduced true fs
 
-abbrev pub invariant-loop-i : goal.invariant-loop-i
-invariant-loop-i l = record {
-  whole : length l.initial.block ≡ 128;
-  replaced : Replacing each 128 tt 0 l.initial.block tt l.i l.block;
-}
-
-abbrev pub decreases-loop-i : goal.decreases-loop-i
-decreases-loop-i l = 128 - l.i
+abbrev pub invariant-loop-value : goal.invariant-loop-value
+invariant-loop-value l = Replacing each tt l.initial.value-items tt l.value-index l.value-items

@@ -10,7 +10,8 @@ use Rattle.std.proofs.Math.Seq.{length-take-le, drop-set-lt}
 use Rattle.format.specs.Basics.{choose, last_of}
 use Rattle.format.specs.Model.{member}
 use Rattle.format.specs.Values.{ids_from}
-use Rattle.compression.specs.declared.values.Restored.TheVariants.{Rising, NotRising}
+use Rattle.std.specs.Prelude.{Ok, Err}
+use Rattle.format.specs.declared.refusal.Refusal.TheVariants.{DocsNotRising}
 use Rattle.compression.specs.Restored.{in_place, ending, sums_behind, found_zero, DocsRestored, Summed}
 use Rattle.compression.proofs.InPlace.{clamped}
 use Rattle.compression.proofs.values.restore_docs.Goals as goal
@@ -71,12 +72,12 @@ module _ (least m : ℕ) (entry between : List ℕ) (some : 0 < m) (fits : m ≤
         }
 
 -- there are no values, or a 0 is found
-no-values : (least : ℕ) (nonzero : Bool) (entry : List ℕ) → DocsRestored least 0 nonzero entry entry (Rising 0)
+no-values : (least : ℕ) (nonzero : Bool) (entry : List ℕ) → DocsRestored least 0 nonzero entry entry (Ok 0)
 unfolding choose found_zero member ending sums_behind last_of in_place
 no-values least true entry = record { answered = refl; left = refl }
 no-values least false entry = record { answered = refl; left = refl }
 
-zero-found : (least n : ℕ) (entry : List ℕ) → member 0 (take n entry) ≡ true → DocsRestored least n false entry entry NotRising
+zero-found : (least n : ℕ) (entry : List ℕ) → member 0 (take n entry) ≡ true → DocsRestored least n false entry entry (Err DocsNotRising)
 unfolding choose found_zero
 zero-found least n entry e = record { answered = rw e; left = rw e }
 
@@ -88,7 +89,7 @@ returns-then-m-eq0 c =
 pub returns-then-has_zero : goal.returns-then-has_zero
 returns-then-has_zero c =
     let some = sym c.has_zero.ensures ∙ c.if-has_zero.true in
-    let found = rw (clamped c.smaller-m.result c.args.n c.args.values.now (omega arith)).0 at some in
+    let found = rw (clamped c.min-m.result c.args.n c.args.values.now (omega arith)).0 at some in
     rw c.if-not-nonzero.true (zero-found c.args.least c.args.n c.args.values.now found)
 
 -- no 0 was found: it was looked for, or the caller ruled it out. A list's first difference is made one less, every other is as it was
@@ -97,7 +98,7 @@ unfolding found_zero
 returns c =
     let args = c.args in
     let entry : List ℕ = args.values.now in
-    let m : ℕ = c.smaller-m.result in
+    let m : ℕ = c.min-m.result in
     let block : List ℕ = c.if-least-eq0.block in
     let none : found_zero args.nonzero (take m entry) ≡ false = elim c.else-not-nonzero.branch [
       | else-not-nonzero-via-then-not-nonzero+else-has_zero w ↦
@@ -105,7 +106,7 @@ returns c =
       | else-not-nonzero-via-else-not-nonzero w ↦ rw w.if-not-nonzero.false
     ] in
     let first : args.least ≡ 0 → block ≡ set entry 0 (get_or entry 0 0 - 1) = λ z. elim c.if-least-eq0.branch [
-      | then-least-eq0 w ↦ w.block-is ∙ ap (set entry 0) w.difference.ensures
+      | then-least-eq0 w ↦ w.block-is ∙ ap (set entry 0) w.saturating_sub.ensures
       | else-least-eq0 w ↦ absurd (w.if-least-eq0.false z)
     ] in
     let others : 0 < args.least → block ≡ entry = λ some. elim c.if-least-eq0.branch [
@@ -114,5 +115,5 @@ returns c =
     ] in
     rw c.ending.ensures
     (restored_by args.least m entry block (omega arith) (omega arith)
-    first others c.sum-last.new.values c.sum-last.result
-    (rw c.difference-2.ensures at c.sum-last.ensures) args.n (omega arith) args.nonzero none)
+    first others c.sum.new.values c.sum.result
+    (rw (c.from.ensures, c.saturating_sub-2.ensures) at c.sum.ensures) args.n (omega arith) args.nonzero none)

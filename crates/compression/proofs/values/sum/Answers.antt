@@ -1,14 +1,14 @@
--- `compression::values::sum` meets its contract. The invariant: what is left to write and the last sum are the same told from the
--- present sum on; each turn adds less than 2 ^ 32, so 128 of them fit 64 bits.
+-- `compression::values::sum` meets its contract: each turn adds one value, less than 2 ^ 32, so 128 of them fit 64 bits.
 -- Assumes nothing.
-use Rattle.std.proofs.Common.{◌≡◌, refl, sym, ap, ◌∙◌, ℕ, List, ◌∷◌, ◌≤◌, ◌<◌, ◌+◌, ◌%◌, ◌^◌, length, get_or, arith, rules}
+use Rattle.std.proofs.Common.{◌≡◌, refl, sym, ◌∙◌, ℕ, suc, List, ◌∷◌, ◌≤◌, ◌<◌, ◌+◌, ◌%◌, ◌^◌, length, get_or, drop, arith, rules, add-one}
 use native.Mathlib.Nat.{add-zero}
+use lib.ListN.{drop_of_length-le}
 use Rattle.std.proofs.Math.ListN.{set}
-use Rattle.std.proofs.Math.Seq.{slice, slice_empty}
+use Rattle.std.proofs.Math.Seq.{drop-cons, drop-set-lt}
 use Rattle.format.specs.Basics.{last_of}
 use Rattle.format.specs.Values.{ids_from}
 use Rattle.compression.specs.Restored.{in_place}
-use Rattle.compression.proofs.InPlace.{slice-turn, replacing_none, replacing_next, replacing_end}
+use Rattle.compression.proofs.InPlace.{replacing_none, replacing_next, replacing_all}
 use Rattle.compression.proofs.values.sum.Invariants.{sums, last_sum}
 use Rattle.compression.proofs.values.sum.Goals as goal
 
@@ -16,36 +16,32 @@ sums-turn : (s v : ℕ) (vs : List ℕ) → sums s (v ∷ vs) ≡ ((s + v) % 2 ^
 unfolding ids_from
 sums-turn s v vs = rw add-zero
 
-last_turn : (s v : ℕ) (vs : List ℕ) → last_sum s (v ∷ vs) ≡ last_sum (s + v) vs
+last_turn : (s i o : ℕ) (l : List ℕ) → i < length l → last_sum s (drop i l) ≡ last_sum (s + get_or l i 0) (drop (i + 1) (set l i o))
 unfolding ids_from last_of
-last_turn s v vs = rw add-zero
+last_turn s i o l h = rw (add-one, drop-cons l i 0 h, drop-set-lt (suc i) l i o (omega arith), add-zero)
 
-pub loop-i-init : goal.loop-i-init
-loop-i-init c = record { replaced = replacing_none sums _ _ 0 _ (omega arith); bounded = omega arith; same = refl }
+last_end : (s i : ℕ) (l : List ℕ) → length l ≤ i → last_sum s (drop i l) ≡ s
+unfolding ids_from last_of
+last_end s i l h = rw (drop_of_length-le l h)
 
-pub loop-i-preserved : goal.loop-i-preserved
-loop-i-preserved c =
-    let l = c.loop-i in
-    let n : ℕ = c.args.n in
-    let v : ℕ = get_or l.values l.i 0 in
-    let out : ℕ = (l.last + v) % 2 ^ 32 in
-    let inside : l.i < n = c.loop-i-test.true in
-    let within : n ≤ length l.values = omega arith in
+pub loop-value-init : goal.loop-value-init
+loop-value-init c = record { replaced = replacing_none sums _ _; bounded = omega arith; same = refl }
+
+pub loop-value-preserved : goal.loop-value-preserved
+loop-value-preserved c =
+    let l = c.loop-value in
+    rw c.from-last.ensures
     record {
-      replaced = replacing_next sums (λ s v. (s + v) % 2 ^ 32) (λ s v. s + v) sums-turn inside (omega arith) l.invariant.replaced;
+      replaced = replacing_next sums (λ s v. (s + v) % 2 ^ 32) (λ s v. s + v) sums-turn (omega arith) l.invariant.replaced;
       bounded = search rules;
-      same = l.invariant.same
-          ∙ (ap (last_sum l.last) (slice-turn l.values l.i n out inside within)
-          ∙ last_turn l.last v (slice (l.i + 1) n (set l.values l.i out)));
+      same = l.invariant.same ∙ last_turn l.last l.value-index _ l.value-items (omega arith);
     }
 
 pub returns : goal.returns
-unfolding in_place ids_from last_of
+unfolding in_place ids_from
 returns c =
-    let l = c.loop-i in
-    let n : ℕ = c.args.n in
-    let all : l.i ≡ n = omega arith in
+    let l = c.loop-value in
     record {
-      answered = sym (l.invariant.same ∙ rw (all, slice_empty n l.values));
-      left = replacing_end sums (λ s. refl) c.loop-i-test.false l.invariant.replaced;
+      answered = sym (l.invariant.same ∙ last_end l.last l.value-index l.value-items (omega arith));
+      left = rw (replacing_all sums (λ s. refl) (omega arith) l.invariant.replaced);
     }
