@@ -1,9 +1,9 @@
 -- What a list needs to be written: room; and what single calls leave of it.
 -- Assumes nothing.
-use Rattle.std.specs.Prelude.{◌≡◌, ℕ, ◌/◌, ◌<◌, ◌≤◌, Bool, ◌≢◌, List, length}
+use Rattle.format.specs.declared.refusal.Refusal.TheVariants.{NoRoom, CountMismatch}
+use Rattle.std.specs.Prelude.{◌≡◌, ℕ, ◌/◌, ◌<◌, ◌≤◌, Bool, ◌≢◌, List, length, Ok, Err}
 use Rattle.format.specs.declared.IndexRecordOption.{IndexRecordOption}
-use Rattle.format.specs.Basics.{ok, refused, put_at}
-use Rattle.format.specs.Refusal.{no_room, count_mismatch}
+use Rattle.format.specs.Basics.{put_at}
 use Rattle.format.specs.Written.{Parts, blocks_of}
 use Rattle.format.specs.Accepted.{kept_in}
 use Rattle.serializer.specs.declared.PostingsSerializer.{PostingsSerializer}
@@ -25,12 +25,12 @@ accepted_blocks mode recording ds fs =
 -- entries at the front of the areas, every other byte as before. Closing under the list's count gives the image if it fits the output
 pub record WritesList (mode : ℕ) (recording : Bool) (begun : PostingsSerializer) (ds fs skips postings image : List ℕ) : Type 0 where
   pub areas : Areas
-  pub takes : take_all_docs begun ds fs skips postings ≡ ok areas
+  pub takes : take_all_docs begun ds fs skips postings ≡ Ok areas
   pub skips_after : areas.skips ≡ put_at 0 (blocks_of (kept_in mode recording) (length ds / 128) 0 ds fs).skips skips
   pub postings_after : areas.postings ≡ put_at 0 (blocks_of (kept_in mode recording) (length ds / 128) 0 ds fs).postings postings
   pub closes : (output : List ℕ) → length image ≤ length output
-      → closing areas.state (length ds) areas.skips areas.postings output ≡ ok image
+      → closing areas.state (length ds) areas.skips areas.postings output ≡ Ok image
   pub without_room : (output : List ℕ) → length output < length image
-      → closing areas.state (length ds) areas.skips areas.postings output ≡ refused no_room
+      → closing areas.state (length ds) areas.skips areas.postings output ≡ Err NoRoom
   pub miscounted : (announced : ℕ) (output : List ℕ) → announced ≢ length ds
-      → closing areas.state announced areas.skips areas.postings output ≡ refused count_mismatch
+      → closing areas.state announced areas.skips areas.postings output ≡ Err CountMismatch

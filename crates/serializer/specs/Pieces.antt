@@ -1,22 +1,17 @@
 -- What the private functions of a block, an image and a document want, answer and leave.
 -- Assumes nothing.
-use Rattle.std.specs.Prelude.{◌≡◌, ℕ, ◌+◌, ◌<◌, ◌≤◌, Bool, true, ◌&&◌ as and, List, [], ◌∷◌, length, nat_lt}
+use Rattle.format.specs.declared.refusal.Refusal.TheVariants.{NoRoom, StateBroken}
+use Rattle.std.specs.Prelude.{◌≡◌, ℕ, ◌+◌, ◌<◌, ◌≤◌, Bool, true, ◌&&◌ as and, List, [], ◌∷◌, length, nat_lt, Ok, Err}
 use Rattle.format.specs.declared.BlockInfo.{BlockInfo}
 use Rattle.format.specs.declared.IndexRecordOption.{IndexRecordOption}
-use Rattle.format.specs.declared.Next.{Next}
-use Rattle.format.specs.declared.Next.TheVariants.{At as Behind, Refused}
-use Rattle.format.specs.Basics.{Outcome, ok, and_then, ask, put_at, TERMINATED, choose, fits_at}
-use Rattle.format.specs.Refusal.{no_room, state_broken}
+use Rattle.format.specs.Basics.{Outcome, and_then, ask, put_at, TERMINATED, choose, fits_at}
 use Rattle.format.specs.SkipEntry.{entry_size_of, block_size_of}
-use Rattle.format.specs.Written.{entry_of, block_of}
+use Rattle.format.specs.Written.{entry_of, block_of, image_with}
 use Rattle.format.specs.Accepted.{take_doc}
 use Rattle.serializer.specs.declared.PostingsSerializer.{PostingsSerializer}
-use Rattle.serializer.specs.declared.block.Placed.{Placed}
-use Rattle.serializer.specs.declared.block.Placed.TheVariants.{At, NoRoom}
 use Rattle.serializer.specs.declared.block.Places.{Places}
+use Rattle.serializer.specs.declared.image.Image.{Image}
 use Rattle.serializer.specs.declared.Progress.{Progress}
-use Rattle.serializer.specs.declared.Written.{Written}
-use Rattle.serializer.specs.declared.Written.TheVariants.{Bytes, Refused as No}
 use Rattle.serializer.specs.Writer.{bounds_hold, option_of, first_least_of, least_after_of, waiting_docs}
 
 -- ---- a block
@@ -45,11 +40,11 @@ block_fits option least ds fs at skips postings =
     and (fits_at at.skips (entry_of option least ds fs) skips) (fits_at at.postings (block_of option least ds fs) postings)
 
 -- .. and are put there if both do
-pub record BlockWritten (option : IndexRecordOption) (least : ℕ) (ds fs : List ℕ) (at : Places) (skips postings skips' postings' : List ℕ) (r : Placed) : Type 0 where
+pub record BlockWritten (option : IndexRecordOption) (least : ℕ) (ds fs : List ℕ) (at : Places) (skips postings skips' postings' : List ℕ) (r : Outcome Places) : Type 0 where
   pub placed :
       r
       ≡ choose (block_fits option least ds fs at skips postings)
-      (λ _. At (behind_both (entry_of option least ds fs) (block_of option least ds fs) at)) (λ _. NoRoom)
+      (λ _. Ok (behind_both (entry_of option least ds fs) (block_of option least ds fs) at)) (λ _. Err NoRoom)
   pub skips_after :
       skips' ≡ choose (block_fits option least ds fs at skips postings) (λ _. put_at at.skips (entry_of option least ds fs) skips) (λ _. skips)
   pub postings_after :
@@ -57,10 +52,9 @@ pub record BlockWritten (option : IndexRecordOption) (least : ℕ) (ds fs : List
 
 -- ---- an image
 
--- the place that a writer of bytes answers
-unfoldable pub place_of : Next → ℕ
-place_of (Behind p) = p
-place_of Refused = 0
+-- its bytes, from its parts
+abbrev pub bytes_of : Image → List ℕ
+bytes_of i = image_with i.full i.skips.now i.postings.now i.option i.offset i.docs.now i.freqs.now
 
 -- bytes put into an area from a place on, and the place behind them
 pub record BytesPut (p : ℕ) (bs area area' : List ℕ) (r : ℕ) : Type 0 where
@@ -68,8 +62,8 @@ pub record BytesPut (p : ℕ) (bs area area' : List ℕ) (r : ℕ) : Type 0 wher
   pub area_after : area' ≡ put_at p bs area
 
 -- an image at the front of the output, if it fits
-pub record ImagePut (image output output' : List ℕ) (r : Written) : Type 0 where
-  pub answer : r ≡ choose (fits_at 0 image output) (λ _. Bytes (length image)) (λ _. No no_room)
+pub record ImagePut (image output output' : List ℕ) (r : Outcome ℕ) : Type 0 where
+  pub answer : r ≡ choose (fits_at 0 image output) (λ _. Ok (length image)) (λ _. Err NoRoom)
   pub output_after : output' ≡ put_at 0 image output
 
 -- ---- question 16
@@ -107,9 +101,9 @@ behind_block_of p d at = record {
 }
 
 -- what is asked before it is taken: 16, 11 to 13, and 16 where as many are taken as can be
-unfoldable pub asking : PostingsSerializer → (d f skips postings : ℕ) → Outcome ℕ
+unfoldable pub asking : PostingsSerializer → (d f skips postings : ℕ) → Outcome (Unit {0})
 unfolding and_then ask bounds_hold take_doc option_of least_after_of first_least_of waiting_docs
 asking s d f skips postings =
-    ask (bounds_hold s skips postings) state_broken λ _.
+    ask (bounds_hold s skips postings) StateBroken λ _.
     and_then (take_doc (option_of s) (least_after_of (first_least_of s) (waiting_docs s)) d f) λ _.
-    ask (nat_lt s.taken TERMINATED) state_broken λ _. ok 0
+    ask (nat_lt s.taken TERMINATED) StateBroken λ _. Ok tt

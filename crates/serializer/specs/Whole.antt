@@ -1,15 +1,13 @@
 -- What the private functions of a whole list want, answer and leave.
 -- Assumes nothing.
-use Rattle.std.specs.Prelude.{◌≡◌, ℕ, ◌+◌, ◌/◌, ◌≤◌, Bool, true, ◌&&◌ as and, List, length, take, drop, nat_le}
+use Rattle.format.specs.declared.refusal.Refusal.TheVariants.{NoRoom}
+use Rattle.std.specs.Prelude.{◌≡◌, ℕ, ◌/◌, Bool, true, ◌&&◌ as and, List, length, take, nat_le, Ok, Err}
 use Rattle.format.specs.declared.IndexRecordOption.{IndexRecordOption}
-use Rattle.format.specs.Basics.{choose, last_of, put_at, fits_at}
-use Rattle.format.specs.Refusal.{no_room}
+use Rattle.format.specs.Basics.{choose, last_of, put_at, fits_at, Outcome}
 use Rattle.format.specs.Values.{rising}
 use Rattle.format.specs.Written.{Parts, blocks_of, in_blocks, image}
 use Rattle.serializer.specs.declared.list.Sizes.{Sizes}
 use Rattle.serializer.specs.declared.list.Tail.{Tail}
-use Rattle.serializer.specs.declared.Written.{Written}
-use Rattle.serializer.specs.declared.Written.TheVariants.{Bytes, Refused}
 
 -- a list that passed its questions: its ids rise, and there are as many frequencies
 pub record Checked (ds fs : List ℕ) : Type 0 where
@@ -26,18 +24,6 @@ pub record ListSized (option : IndexRecordOption) (ds fs : List ℕ) (sizes : Si
   pub checked : Checked ds fs
   pub entries_are : sizes.entries ≡ length (full_blocks_of option ds fs).skips
   pub blocks_are : sizes.blocks ≡ length (full_blocks_of option ds fs).postings
-
--- the block that begins at a place
-pub record BlockThere (least at : ℕ) (ds fs : List ℕ) : Type 0 where
-  pub docs_there : at + 128 ≤ length ds
-  pub freqs_there : at + 128 ≤ length fs
-  pub rises : rising least (take 128 (drop at ds)) ≡ true
-
--- so many bytes of entries and of blocks within their areas
-pub record PartsThere (ds fs : List ℕ) (sizes : Sizes) (skips postings : List ℕ) : Type 0 where
-  pub as_many : length ds ≡ length fs
-  pub entries_there : sizes.entries ≤ length skips
-  pub blocks_there : sizes.blocks ≤ length postings
 
 -- where its tail begins
 pub record TailOf (ds : List ℕ) (tail : Tail) : Type 0 where
@@ -61,8 +47,8 @@ pub record BlocksPut (option : IndexRecordOption) (ds fs skips postings skips' p
   pub postings_after : postings' ≡ put_at 0 (full_blocks_of option ds fs).postings postings
 
 -- .. and the image into the output, where all of them fit
-pub record ListPut (option : IndexRecordOption) (ds fs skips postings output skips' postings' output' : List ℕ) (r : Written) : Type 0 where
-  pub answer : r ≡ choose (list_fits_of option ds fs skips postings (length output)) (λ _. Bytes (length (image option ds fs))) (λ _. Refused no_room)
+pub record ListPut (option : IndexRecordOption) (ds fs skips postings output skips' postings' output' : List ℕ) (r : Outcome ℕ) : Type 0 where
+  pub answer : r ≡ choose (list_fits_of option ds fs skips postings (length output)) (λ _. Ok (length (image option ds fs))) (λ _. Err NoRoom)
   pub skips_after :
       skips' ≡ choose (list_fits_of option ds fs skips postings (length output)) (λ _. put_at 0 (full_blocks_of option ds fs).skips skips) (λ _. skips)
   pub postings_after :

@@ -1,9 +1,9 @@
 -- What the writer's calls answer and leave: the state, the two lent areas and the output, on every input.
 -- Assumes nothing.
-use Rattle.std.specs.Prelude.{ℕ, ◌+◌, ◌-◌, ◌/◌, Bool, not, ◌&&◌ as and, ◌||◌ as or, List, [], ◌∷◌, length, take, replicate, ◌==◌, nat_le, nat_lt, slice_set}
+use Rattle.format.specs.declared.refusal.Refusal.TheVariants.{CountMismatch, NoRoom, StateBroken}
+use Rattle.std.specs.Prelude.{ℕ, ◌+◌, ◌-◌, ◌/◌, Bool, not, ◌&&◌ as and, ◌||◌ as or, List, [], ◌∷◌, length, take, replicate, ◌==◌, nat_le, nat_lt, slice_set, Ok, Err}
 use Rattle.format.specs.declared.IndexRecordOption.{IndexRecordOption}
-use Rattle.format.specs.Basics.{Outcome, ok, refused, and_then, ask, choose, last_of, put_at, fits_at, or_before, TERMINATED}
-use Rattle.format.specs.Refusal.{count_mismatch, no_room, state_broken}
+use Rattle.format.specs.Basics.{Outcome, and_then, ask, choose, last_of, put_at, fits_at, or_before, TERMINATED}
 use Rattle.format.specs.Values.{rising, countable}
 use Rattle.format.specs.SkipEntry.{has_freq_of}
 use Rattle.format.specs.Written.{entry_of, block_of, Parts, blocks_of, image_with}
@@ -106,8 +106,8 @@ unfolding ask fits_at put_at emptied entry_of block_of option_of
 finished s least skips postings =
     let entry : List ℕ = entry_of (option_of s) least s.docs s.freqs in
     let block : List ℕ = block_of (option_of s) least s.docs s.freqs in
-    ask (and (fits_at s.skips_at entry skips) (fits_at s.postings_at block postings)) no_room λ _.
-    ok (record {
+    ask (and (fits_at s.skips_at entry skips) (fits_at s.postings_at block postings)) NoRoom λ _.
+    Ok (record {
       state = emptied s (record { skips = s.skips_at + length entry; postings = s.postings_at + length block });
       skips = put_at s.skips_at entry skips;
       postings = put_at s.postings_at block postings;
@@ -117,11 +117,11 @@ finished s least skips postings =
 unfoldable pub taking : PostingsSerializer → ℕ → ℕ → List ℕ → List ℕ → Outcome Areas
 unfolding and_then ask choose in_bounds_of take_doc option_of least_after_of first_least_of waiting_docs stored finished
 taking s d f skips postings =
-    ask (in_bounds_of s skips postings) state_broken λ _.
+    ask (in_bounds_of s skips postings) StateBroken λ _.
     and_then (take_doc (option_of s) (least_after_of (first_least_of s) (waiting_docs s)) d f) λ _.
-    ask (nat_lt s.taken TERMINATED) state_broken λ _.
+    ask (nat_lt s.taken TERMINATED) StateBroken λ _.
     choose (nat_lt s.waiting 127)
-    (λ _. ok (record { state = stored s d f; skips = skips; postings = postings }))
+    (λ _. Ok (record { state = stored s d f; skips = skips; postings = postings }))
     (λ _. finished (stored s d f) (first_least_of s) skips postings)
 
 -- the image: what the areas hold so far, and the tail
@@ -135,16 +135,16 @@ image_of s skips postings =
 unfoldable pub closing : PostingsSerializer → ℕ → List ℕ → List ℕ → List ℕ → Outcome (List ℕ)
 unfolding ask fits_at in_bounds_of image_of
 closing s announced skips postings output =
-    ask (in_bounds_of s skips postings) state_broken λ _.
-    ask (s.taken == announced) count_mismatch λ _.
+    ask (in_bounds_of s skips postings) StateBroken λ _.
+    ask (s.taken == announced) CountMismatch λ _.
     let image : List ℕ = image_of s skips postings in
-    ask (fits_at 0 image output) no_room λ _. ok image
+    ask (fits_at 0 image output) NoRoom λ _. Ok image
 
 -- documents handed in one by one, each call with the state and the areas as the last one left them
 unfoldable pub take_all_docs : PostingsSerializer → List ℕ → List ℕ → List ℕ → List ℕ → Outcome Areas
 unfolding and_then taking
-take_all_docs s [] fs skips postings = ok (record { state = s; skips = skips; postings = postings })
-take_all_docs s (d ∷ ds) [] skips postings = refused count_mismatch
+take_all_docs s [] fs skips postings = Ok (record { state = s; skips = skips; postings = postings })
+take_all_docs s (d ∷ ds) [] skips postings = Err CountMismatch
 take_all_docs s (d ∷ ds) (f ∷ fs) skips postings =
     and_then (taking s d f skips postings) λ a. take_all_docs a.state ds fs a.skips a.postings
 
@@ -163,13 +163,13 @@ unfolding and_then ask fits_at written kept_in blocks_of
 listing mode recording ds fs skips postings output =
     and_then (written mode recording ds fs) λ image.
     let blocks : Parts = blocks_of (kept_in mode recording) (length ds / 128) 0 ds fs in
-    ask (and (and (fits_at 0 blocks.skips skips) (fits_at 0 blocks.postings postings)) (fits_at 0 image output)) no_room λ _.
-    ok image
+    ask (and (and (fits_at 0 blocks.skips skips) (fits_at 0 blocks.postings postings)) (fits_at 0 image output)) NoRoom λ _.
+    Ok image
 
 -- .. under an announced count: 14 for another one behind the documents' questions, and before 15
 unfoldable pub announcing : ℕ → Bool → ℕ → List ℕ → List ℕ → List ℕ → List ℕ → List ℕ → Outcome (List ℕ)
 unfolding and_then ask written listing
 announcing mode recording announced ds fs skips postings output =
     and_then (written mode recording ds fs) λ _.
-    ask (length ds == announced) count_mismatch λ _.
+    ask (length ds == announced) CountMismatch λ _.
     listing mode recording ds fs skips postings output

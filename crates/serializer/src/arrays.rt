@@ -6,36 +6,35 @@ ghost use Rattle.format.specs.Accepted.{begin};
 ghost use Rattle.serializer.specs.Calls.{progress_of_of, progressed, state_of, TookIn, ClosedFrom};
 ghost use Rattle.serializer.specs.Writer.{fresh};
 
-use crate::bounds::in_bounds;
-use crate::document::{fill_block, may_take, one_more};
-use crate::image::put_term;
-use crate::{Accepted, ClosedIn, Progress, Progressed, Written};
-use format::{COUNT_MISMATCH, STATE_BROKEN, UNKNOWN_MODE};
+use crate::{ClosedIn, Progress};
+use format::Refusal;
 use skip::known_mode;
 
-// The numbers of a state that holds no document.
-pub(crate) fn fresh_progress(mode: u8, recording: bool) -> Progress
-    ensures { result ≡ progress_of_of (fresh mode recording) }
-{
-    Progress {
-        mode,
-        recording,
-        waiting: 0,
-        last_doc: 0,
-        taken: 0,
-        skips_at: 0,
-        postings_at: 0,
+impl Progress {
+    // The numbers of a state that holds no document.
+    pub(crate) fn fresh(mode: u8, recording: bool) -> Progress
+        ensures { result ≡ progress_of_of (fresh mode recording) }
+    {
+        Progress {
+            mode,
+            recording,
+            waiting: 0,
+            last_doc: 0,
+            taken: 0,
+            skips_at: 0,
+            postings_at: 0,
+        }
     }
 }
 
 // Begins a term: its mode, 0 or 1, and whether its frequencies are recorded. What the arrays hold doesn't matter.
-pub fn new_term_in(mode: u8, recording: bool) -> Progressed
+pub fn new_term_in(mode: u8, recording: bool) -> Result<Progress, Refusal>
     ensures { result ≡ progressed (λ _. fresh mode recording) (begin mode recording) }
 {
     if !known_mode(mode) {
-        return Progressed::Refused(UNKNOWN_MODE);
+        return Err(Refusal::UnknownMode);
     }
-    Progressed::At(fresh_progress(mode, recording))
+    Ok(Progress::fresh(mode, recording))
 }
 
 // Takes one document more: it waits in the arrays. One that fills a block has it written into the areas, behind what they hold so far.
@@ -47,29 +46,18 @@ pub fn write_doc_in(
     freqs: &mut [u32; 128],
     skips: &mut [u8],
     postings: &mut [u8],
-) -> Progressed
+) -> Result<Progress, Refusal>
     ensures { TookIn (state_of progress docs.old freqs.old) doc freq skips.old postings.old
         docs.new freqs.new skips.new postings.new result }
 {
-    let asked = may_take(
-        progress,
-        doc,
-        freq,
-        docs,
-        freqs,
-        skips.len(),
-        postings.len(),
-    );
-    if let Accepted::Refused(n) = asked {
-        return Progressed::Refused(n);
-    }
+    progress.may_take(doc, freq, docs, freqs, skips.len(), postings.len())?;
     let waiting = progress.waiting;
     if 127 <= waiting {
-        return fill_block(progress, doc, freq, docs, freqs, skips, postings);
+        return progress.fill_block(doc, freq, docs, freqs, skips, postings);
     }
     docs[waiting] = doc;
     freqs[waiting] = freq;
-    Progressed::At(one_more(progress))
+    Ok(progress.one_more())
 }
 
 // Closes a term of as many documents as announced: its image goes to the front of the output, and the numbers of a fresh state are left.
@@ -85,27 +73,24 @@ pub fn close_term_in(
     ensures { ClosedFrom (state_of progress docs.now freqs.now) announced skips.now postings.now
         output.old output.new result }
 {
-    if !in_bounds(progress, docs, freqs, skips.len(), postings.len()) {
+    if !progress.in_bounds(docs, freqs, skips.len(), postings.len()) {
         return ClosedIn {
-            answer: Written::Refused(STATE_BROKEN),
+            answer: Err(Refusal::StateBroken),
             progress,
         };
     }
     if progress.taken != announced {
         return ClosedIn {
-            answer: Written::Refused(COUNT_MISMATCH),
+            answer: Err(Refusal::CountMismatch),
             progress,
         };
     }
-    let put = put_term(progress, docs, freqs, skips, postings, output);
-    let Written::Bytes(_) = put else {
-        return ClosedIn {
-            answer: put,
-            progress,
-        };
-    };
-    ClosedIn {
-        answer: put,
-        progress: fresh_progress(progress.mode, progress.recording),
+    let answer = progress.put_term(docs, freqs, skips, postings, output);
+    match answer {
+        Ok(_) => ClosedIn {
+            answer,
+            progress: Progress::fresh(progress.mode, progress.recording),
+        },
+        Err(_) => ClosedIn { answer, progress },
     }
 }

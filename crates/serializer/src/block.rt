@@ -12,7 +12,7 @@ use bitpacking::{num_bits, pack};
 use common::within;
 use compression::compressed_block_size;
 use compression::values::{reduce_docs, reduce_freqs};
-use format::{BlockInfo, IndexRecordOption};
+use format::{BlockInfo, IndexRecordOption, Refusal};
 use skip::{block_size, entry_size, has_freq, write_entry};
 
 // Places in the two areas, for a block's entry and for its values.
@@ -22,22 +22,11 @@ pub struct Places {
     pub postings: usize,
 }
 
-// Where the areas reach behind a block; or that one of them has no room for it.
-#[derive(Clone, Copy)]
-pub enum Placed {
-    At(Places),
-    NoRoom,
-}
-
 // The last of some ids, 0 where there is none.
 pub(crate) fn last_of(docs: &[u32]) -> u32
     ensures { result ≡ last_of 0 docs.now }
 {
-    let n = docs.len();
-    if n == 0 {
-        return 0;
-    }
-    docs[n - 1]
+    docs.last().copied().unwrap_or(0)
 }
 
 // The width of a block's frequency values, 0 where frequencies aren't kept.
@@ -62,10 +51,8 @@ fn has_room(
     ensures { result ≡ and (nat_le (at.skips + entry_size_of option) (length skips.now))
         (nat_le (at.postings + block_size_of info) (length postings.now)) }
 {
-    if !within(at.skips, entry_size(option), skips.len()) {
-        return false;
-    }
-    within(at.postings, block_size(info), postings.len())
+    within(at.skips, entry_size(option), skips.len())
+        && within(at.postings, block_size(info), postings.len())
 }
 
 // Packs values into an area from a place on, where they fit.
@@ -101,7 +88,8 @@ fn put_block(
     }
 }
 
-// Writes a full block and its entry, where both fit; else nothing is written.
+// Writes a full block and its entry, where both fit; else nothing is written. It answers where the areas reach behind them. The areas
+// stay two parameters, as the public calls have them: a struct of both would be made anew at each call.
 pub(crate) fn write_block(
     option: IndexRecordOption,
     least: u32,
@@ -110,7 +98,7 @@ pub(crate) fn write_block(
     skips: &mut [u8],
     postings: &mut [u8],
     at: Places,
-) -> Placed
+) -> Result<Places, Refusal>
     requires { rising least docs.now ≡ true }
     ensures { BlockWritten option least docs.now freqs.now at
         skips.old postings.old skips.new postings.new result }
@@ -126,7 +114,7 @@ pub(crate) fn write_block(
         freq_width: freq_width(option, &freq_values),
     };
     if !has_room(option, info, skips, postings, at) {
-        return Placed::NoRoom;
+        return Err(Refusal::NoRoom);
     }
-    Placed::At(put_block(option, info, &doc_values, &freq_values, skips, postings, at))
+    Ok(put_block(option, info, &doc_values, &freq_values, skips, postings, at))
 }

@@ -2,6 +2,7 @@
 // its loops have no branch inside: they become vector code.
 
 ghost use Rattle.std.specs.Prelude.{◌≡◌, ℕ, ◌<◌, ◌≤◌, not, ◌&&◌ as and, ◌||◌ as or, List, length, take};
+ghost use Rattle.format.specs.Accepted.{kept_in};
 ghost use Rattle.format.specs.SkipEntry.{has_freq_of};
 ghost use Rattle.format.specs.Values.{rising, countable};
 ghost use Rattle.serializer.specs.Calls.{state_of};
@@ -13,7 +14,8 @@ use crate::block::last_of;
 use format::{IndexRecordOption, TERMINATED};
 use skip::{has_freq, known_mode, record_option};
 
-// The first n of some values.
+// The first n of some values. Written `&docs[..n]` at an array, the proof that n is within it would go by a name of the checker's own, which
+// may change.
 pub(crate) fn front(values: &[u32], n: usize) -> &[u32]
     requires { n ≤ length values.now }
     ensures { result.now ≡ take n values.now }
@@ -21,7 +23,8 @@ pub(crate) fn front(values: &[u32], n: usize) -> &[u32]
     &values[..n]
 }
 
-// Whether each id lies above the one before it.
+// Whether each id lies above the one before it. An index, since `zip` and `windows` take a tenth longer (they become vector code too), and `all`
+// three times as long.
 fn climbs(docs: &[u32]) -> bool
     requires { 0 < length docs.now }
     ensures { result ≡ climbing docs.now }
@@ -33,7 +36,7 @@ fn climbs(docs: &[u32]) -> bool
     above
 }
 
-// .. and each frequency is at least 1: one loop over both is faster than two.
+// .. and each frequency is at least 1: one loop over both is faster than two, and by an index faster than by a `zip`, as above.
 fn climbs_counted(docs: &[u32], freqs: &[u32]) -> bool
     requires { (0 < length docs.now) × (length docs.now ≡ length freqs.now) }
     ensures { result ≡ and (climbing docs.now) (countable freqs.now) }
@@ -67,44 +70,58 @@ fn documents_wait(option: IndexRecordOption, docs: &[u32], freqs: &[u32], least:
     }
 }
 
-// The least id that the first waiting document may have; 2 ^ 32 where the last block's last id is the largest number of 32 bits.
-pub(crate) fn first_least(progress: Progress) -> u64
-    ensures { (docs freqs : List ℕ) → result ≡ first_least_of (state_of progress docs freqs) }
-{
-    if progress.waiting < progress.taken as usize {
-        progress.last_doc as u64 + 1
-    } else {
-        0
+// The arrays stay two parameters beside the numbers: some calls lend them to read, others to write.
+impl Progress {
+    // What the term keeps.
+    pub(crate) fn option(self) -> IndexRecordOption
+        ensures { result ≡ kept_in self.mode self.recording }
+    {
+        record_option(self.mode, self.recording)
     }
-}
 
-// Whether a state is in bounds, by the lengths of the two areas.
-pub(crate) fn in_bounds(
-    progress: Progress,
-    docs: &[u32; 128],
-    freqs: &[u32; 128],
-    skips: usize,
-    postings: usize,
-) -> bool
-    ensures { result ≡ bounds_hold (state_of progress docs.now freqs.now) skips postings }
-{
-    let waiting = progress.waiting;
-    if 127 < waiting {
-        return false;
+    // The least id that the first waiting document may have; 2 ^ 32 where the last block's last id is the largest number of 32 bits.
+    pub(crate) fn first_least(self) -> u64
+        ensures { (docs freqs : List ℕ) → result ≡ first_least_of (state_of self docs freqs) }
+    {
+        if self.waiting < self.taken as usize {
+            self.last_doc as u64 + 1
+        } else {
+            0
+        }
     }
-    let option = record_option(progress.mode, progress.recording);
-    let least = first_least(progress);
-    if !documents_wait(option, front(docs, waiting), front(freqs, waiting), least) {
-        return false;
+
+    // Whether a state is in bounds, by the lengths of the two areas.
+    pub(crate) fn in_bounds(
+        self,
+        docs: &[u32; 128],
+        freqs: &[u32; 128],
+        skips: usize,
+        postings: usize,
+    ) -> bool
+        ensures { result ≡ bounds_hold (state_of self docs.now freqs.now) skips postings }
+    {
+        let waiting = self.waiting;
+        if 127 < waiting {
+            return false;
+        }
+        let least = self.first_least();
+        if !documents_wait(
+            self.option(),
+            front(docs, waiting),
+            front(freqs, waiting),
+            least,
+        ) {
+            return false;
+        }
+        if TERMINATED < self.taken {
+            return false;
+        }
+        if skips < self.skips_at {
+            return false;
+        }
+        if postings < self.postings_at {
+            return false;
+        }
+        known_mode(self.mode)
     }
-    if TERMINATED < progress.taken {
-        return false;
-    }
-    if skips < progress.skips_at {
-        return false;
-    }
-    if postings < progress.postings_at {
-        return false;
-    }
-    known_mode(progress.mode)
 }

@@ -3,37 +3,29 @@
 ghost use Rattle.std.specs.Prelude.{◌≡◌, ℕ, ◌+◌, ◌-◌, ◌≤◌, true, List, length, nat_le};
 ghost use Rattle.format.specs.SkipEntry.{has_freq_of};
 ghost use Rattle.format.specs.Vint.{vints};
-ghost use Rattle.format.specs.Written.{only_if, head_of, tail_of_of, image_with};
+ghost use Rattle.format.specs.Written.{only_if, head_of, tail_of_of};
 ghost use Rattle.serializer.specs.Calls.{state_of};
-ghost use Rattle.serializer.specs.Pieces.{place_of, BytesPut, ImagePut};
+ghost use Rattle.serializer.specs.Pieces.{bytes_of, BytesPut, ImagePut};
 ghost use Rattle.serializer.specs.Writer.{first_least_of, in_bounds_of, image_of};
 
+use crate::Progress;
 use crate::bounds::front;
-use crate::{Progress, Written};
 use common::{put, within};
-use format::{IndexRecordOption, NO_ROOM, Next};
-use skip::{has_freq, record_option};
+use format::{IndexRecordOption, Refusal};
+use skip::has_freq;
 use vint::{compress_sorted, compress_unsorted, sorted_size, unsorted_size, vint_size, write_vint};
 
-// How many bytes the skip length and the entries take.
-fn head_size(full: usize, skips: &[u8]) -> usize
-    ensures { result ≡ length (head_of full skips.now) }
-{
-    if full == 0 {
-        return 0;
-    }
-    vint_size(skips.len() as u64) + skips.len()
-}
-
-// How many bytes a tail's frequencies take, 0 where they aren't kept.
-fn freqs_size(option: IndexRecordOption, freqs: &[u32]) -> usize
-    ensures { result ≡ length (only_if (has_freq_of option) (vints freqs.now)) }
-{
-    if has_freq(option) {
-        unsorted_size(freqs)
-    } else {
-        0
-    }
+// A term's image in parts: its entries and the bytes of its full blocks, `full` of them, and the documents of its tail, whose first
+// difference is taken from `offset`.
+#[derive(Clone, Copy)]
+pub(crate) struct Image<'a> {
+    pub full: usize,
+    pub skips: &'a [u8],
+    pub postings: &'a [u8],
+    pub option: IndexRecordOption,
+    pub offset: u32,
+    pub docs: &'a [u32],
+    pub freqs: &'a [u32],
 }
 
 // Whether the parts of an image lie within `len` bytes, one behind the other; no sum of their sizes is made, which might wrap.
@@ -50,146 +42,120 @@ fn parts_fit(len: usize, head: usize, postings: usize, docs: usize, freqs: usize
     within(docs, freqs, left - postings)
 }
 
-// Whether an image lies within `len` bytes.
-pub(crate) fn image_fits(
-    full: usize,
-    skips: &[u8],
-    postings: &[u8],
-    option: IndexRecordOption,
-    offset: u32,
-    docs: &[u32],
-    freqs: &[u32],
-    len: usize,
-) -> bool
-    ensures { result ≡ nat_le (length (image_with full skips.now postings.now option offset docs.now freqs.now)) len }
-{
-    parts_fit(
-        len,
-        head_size(full, skips),
-        postings.len(),
-        sorted_size(docs, offset),
-        freqs_size(option, freqs),
-    )
-}
+impl<'a> Image<'a> {
+    // How many bytes the skip length and the entries take.
+    fn head_size(&self) -> usize
+        ensures { result ≡ length (head_of self.now.full self.now.skips.now) }
+    {
+        if self.full == 0 {
+            return 0;
+        }
+        vint_size(self.skips.len() as u64) + self.skips.len()
+    }
 
-// The place behind bytes that were written.
-fn behind(next: Next) -> usize
-    ensures { result ≡ place_of next }
-{
-    match next {
-        Next::At(at) => at,
-        Next::Refused => 0,
+    // How many bytes the tail's frequencies take, 0 where they aren't kept.
+    fn freqs_size(&self) -> usize
+        ensures { result ≡ length (only_if (has_freq_of self.now.option) (vints self.now.freqs.now)) }
+    {
+        if has_freq(self.option) {
+            unsorted_size(self.freqs)
+        } else {
+            0
+        }
+    }
+
+    // Whether the image lies within `len` bytes.
+    pub(crate) fn fits(&self, len: usize) -> bool
+        ensures { result ≡ nat_le (length (bytes_of self.now)) len }
+    {
+        parts_fit(
+            len,
+            self.head_size(),
+            self.postings.len(),
+            sorted_size(self.docs, self.offset),
+            self.freqs_size(),
+        )
+    }
+
+    // Writes the skip length and the entries, which fit, at the front of the output; the place behind them.
+    fn put_head(&self, output: &mut [u8]) -> usize
+        requires { length (head_of self.now.full self.now.skips.now) ≤ length output.old }
+        ensures { BytesPut 0 (head_of self.now.full self.now.skips.now) output.old output.new result }
+    {
+        if self.full == 0 {
+            return 0;
+        }
+        let at = write_vint(self.skips.len() as u64, output, 0).unwrap();
+        put(self.skips, output, at).unwrap()
+    }
+
+    // Writes the tail's frequencies, which fit, from a place on; the place behind them.
+    fn put_freqs(&self, output: &mut [u8], at: usize) -> usize
+        requires { at + length (only_if (has_freq_of self.now.option) (vints self.now.freqs.now)) ≤ length output.old }
+        ensures { BytesPut at (only_if (has_freq_of self.now.option) (vints self.now.freqs.now)) output.old output.new result }
+    {
+        if has_freq(self.option) {
+            compress_unsorted(self.freqs, output, at).unwrap()
+        } else {
+            at
+        }
+    }
+
+    // Writes the tail, which fits, from a place on, ids before frequencies; the place behind it.
+    fn put_tail(&self, output: &mut [u8], at: usize) -> usize
+        requires { at + length (tail_of_of self.now.option self.now.offset self.now.docs.now self.now.freqs.now) ≤ length output.old }
+        ensures { BytesPut at (tail_of_of self.now.option self.now.offset self.now.docs.now self.now.freqs.now) output.old output.new result }
+    {
+        let freqs_at = compress_sorted(self.docs, self.offset, output, at).unwrap();
+        self.put_freqs(output, freqs_at)
+    }
+
+    // Writes the image at the front of the output, where it fits; else nothing is written.
+    pub(crate) fn put(&self, output: &mut [u8]) -> Result<usize, Refusal>
+        ensures { ImagePut (bytes_of self.now) output.old output.new result }
+    {
+        if !self.fits(output.len()) {
+            return Err(Refusal::NoRoom);
+        }
+        let postings_at = self.put_head(output);
+        let tail_at = put(self.postings, output, postings_at).unwrap();
+        Ok(self.put_tail(output, tail_at))
     }
 }
 
-// Writes the skip length and the entries, which fit, at the front of the output; the place behind them.
-fn put_head(full: usize, skips: &[u8], output: &mut [u8]) -> usize
-    requires { length (head_of full skips.now) ≤ length output.old }
-    ensures { BytesPut 0 (head_of full skips.now) output.old output.new result }
-{
-    if full == 0 {
-        return 0;
+impl Progress {
+    // The id that a tail's first difference is taken from: the last block's last id, 0 where there is no block.
+    fn tail_offset(self) -> u32
+        ensures { (docs freqs : List ℕ) → result ≡ first_least_of (state_of self docs freqs) - 1 }
+    {
+        self.first_least().saturating_sub(1) as u32
     }
-    let at = behind(write_vint(skips.len() as u64, output, 0));
-    behind(put(skips, output, at))
-}
 
-// Writes a tail's frequencies, which fit, from a place on; the place behind them.
-fn put_freqs(option: IndexRecordOption, freqs: &[u32], output: &mut [u8], at: usize) -> usize
-    requires { at + length (only_if (has_freq_of option) (vints freqs.now)) ≤ length output.old }
-    ensures { BytesPut at (only_if (has_freq_of option) (vints freqs.now)) output.old output.new result }
-{
-    if has_freq(option) {
-        behind(compress_unsorted(freqs, output, at))
-    } else {
-        at
+    // Writes the image of a state that is in bounds at the front of the output.
+    pub(crate) fn put_term(
+        self,
+        docs: &[u32; 128],
+        freqs: &[u32; 128],
+        skips: &[u8],
+        postings: &[u8],
+        output: &mut [u8],
+    ) -> Result<usize, Refusal>
+        requires { in_bounds_of (state_of self docs.now freqs.now) skips.now postings.now ≡ true }
+        ensures { ImagePut (image_of (state_of self docs.now freqs.now) skips.now postings.now)
+            output.old output.new result }
+    {
+        let waiting = self.waiting;
+        let skips_at = self.skips_at;
+        let postings_at = self.postings_at;
+        let image = Image {
+            full: self.taken as usize / 128,
+            skips: &skips[..skips_at],
+            postings: &postings[..postings_at],
+            option: self.option(),
+            offset: self.tail_offset(),
+            docs: front(docs, waiting),
+            freqs: front(freqs, waiting),
+        };
+        image.put(output)
     }
-}
-
-// Writes a tail, which fits, from a place on, ids before frequencies; the place behind it.
-fn put_tail(
-    option: IndexRecordOption,
-    offset: u32,
-    docs: &[u32],
-    freqs: &[u32],
-    output: &mut [u8],
-    at: usize,
-) -> usize
-    requires { at + length (tail_of_of option offset docs.now freqs.now) ≤ length output.old }
-    ensures { BytesPut at (tail_of_of option offset docs.now freqs.now) output.old output.new result }
-{
-    let freqs_at = behind(compress_sorted(docs, offset, output, at));
-    put_freqs(option, freqs, output, freqs_at)
-}
-
-// Writes an image at the front of the output, where it fits; else nothing is written. `full` is the number of its full blocks, whose
-// entries and own bytes are given; `offset` is the id that the tail's first difference is taken from.
-pub(crate) fn put_image(
-    full: usize,
-    skips: &[u8],
-    postings: &[u8],
-    option: IndexRecordOption,
-    offset: u32,
-    docs: &[u32],
-    freqs: &[u32],
-    output: &mut [u8],
-) -> Written
-    ensures { ImagePut (image_with full skips.now postings.now option offset docs.now freqs.now)
-        output.old output.new result }
-{
-    if !image_fits(
-        full,
-        skips,
-        postings,
-        option,
-        offset,
-        docs,
-        freqs,
-        output.len(),
-    ) {
-        return Written::Refused(NO_ROOM);
-    }
-    let postings_at = put_head(full, skips, output);
-    let tail_at = behind(put(postings, output, postings_at));
-    let end = put_tail(option, offset, docs, freqs, output, tail_at);
-    Written::Bytes(end)
-}
-
-// The id that a tail's first difference is taken from: the last block's last id, 0 where there is no block.
-fn tail_offset(progress: Progress) -> u32
-    ensures { (docs freqs : List ℕ) → result ≡ first_least_of (state_of progress docs freqs) - 1 }
-{
-    if progress.waiting < progress.taken as usize {
-        progress.last_doc
-    } else {
-        0
-    }
-}
-
-// Writes the image of a state that is in bounds at the front of the output.
-pub(crate) fn put_term(
-    progress: Progress,
-    docs: &[u32; 128],
-    freqs: &[u32; 128],
-    skips: &[u8],
-    postings: &[u8],
-    output: &mut [u8],
-) -> Written
-    requires { in_bounds_of (state_of progress docs.now freqs.now) skips.now postings.now ≡ true }
-    ensures { ImagePut (image_of (state_of progress docs.now freqs.now) skips.now postings.now)
-        output.old output.new result }
-{
-    let waiting = progress.waiting;
-    let skips_at = progress.skips_at;
-    let postings_at = progress.postings_at;
-    put_image(
-        progress.taken as usize / 128,
-        &skips[..skips_at],
-        &postings[..postings_at],
-        record_option(progress.mode, progress.recording),
-        tail_offset(progress),
-        front(docs, waiting),
-        front(freqs, waiting),
-        output,
-    )
 }

@@ -10,11 +10,11 @@ mod image;
 mod list;
 
 ghost use Rattle.std.specs.Prelude.{◌≡◌};
-ghost use Rattle.serializer.specs.Calls.{beginning, progress_of_of, state_of, Took, Closed};
+ghost use Rattle.serializer.specs.Calls.{beginning, state_of, Took, Closed};
 ghost use Rattle.serializer.specs.Writer as specs;
 
-use crate::arrays::fresh_progress;
 pub use arrays::{close_term_in, new_term_in, write_doc_in};
+use format::Refusal;
 pub use list::{ask_list, write_list};
 
 // A term being written. Finished blocks and their entries lie in two areas that the caller lends to each call.
@@ -23,6 +23,7 @@ pub struct PostingsSerializer {
     // The documents that wait for their block to fill, and their frequencies.
     pub docs: [u32; 128],
     pub freqs: [u32; 128],
+    // A number, and no enum, since a lent state may hold any: question 16 refuses those that name nothing.
     pub mode: u8,
     pub recording: bool,
     pub waiting: usize,
@@ -35,35 +36,22 @@ pub struct PostingsSerializer {
     pub postings_at: usize,
 }
 
-// What a call answers that gives no bytes: yes; or the number of the question that was answered no.
-#[derive(Clone, Copy)]
-pub enum Accepted {
-    Yes,
-    Refused(u8),
-}
-
-// What a call answers that writes an image: its length; or the number of the question that was answered no.
-#[derive(Clone, Copy)]
-pub enum Written {
-    Bytes(usize),
-    Refused(u8),
-}
-
 // Whether a term was begun or a document taken, with the state after it.
 #[derive(Clone, Copy)]
 pub struct Step {
-    pub answer: Accepted,
+    pub answer: Result<(), Refusal>,
     pub state: PostingsSerializer,
 }
 
-// What closing a term answers, with the state after it.
+// What closing a term answers, the image's length, with the state after it.
 #[derive(Clone, Copy)]
 pub struct ClosedTerm {
-    pub answer: Written,
+    pub answer: Result<usize, Refusal>,
     pub state: PostingsSerializer,
 }
 
-// The numbers of a state, without the documents that wait: what a call on two lent arrays takes and gives.
+// The numbers of a state, without the documents that wait: what a call on two lent arrays takes and gives. They stand in the state one by
+// one, since its fields are public.
 #[derive(Clone, Copy)]
 pub struct Progress {
     pub mode: u8,
@@ -75,73 +63,73 @@ pub struct Progress {
     pub postings_at: usize,
 }
 
-// Where a call on two lent arrays came to; or the number of the question that was answered no.
-#[derive(Clone, Copy)]
-pub enum Progressed {
-    At(Progress),
-    Refused(u8),
-}
-
 // What closing a term from two lent arrays answers, with the numbers after it.
 #[derive(Clone, Copy)]
 pub struct ClosedIn {
-    pub answer: Written,
+    pub answer: Result<usize, Refusal>,
     pub progress: Progress,
 }
 
 // The numbers of a state.
-fn progress_of(state: PostingsSerializer) -> Progress
-    ensures { result ≡ progress_of_of state }
-{
-    Progress {
-        mode: state.mode,
-        recording: state.recording,
-        waiting: state.waiting,
-        last_doc: state.last_doc,
-        taken: state.taken,
-        skips_at: state.skips_at,
-        postings_at: state.postings_at,
+impl From<PostingsSerializer> for Progress {
+    ghost use Rattle.std.specs.Prelude.{◌≡◌};
+    ghost use Rattle.serializer.specs.Calls.{progress_of_of};
+
+    ghost from_gives = { λ state p. p ≡ progress_of_of state };
+
+    fn from(state: PostingsSerializer) -> Progress {
+        Progress {
+            mode: state.mode,
+            recording: state.recording,
+            waiting: state.waiting,
+            last_doc: state.last_doc,
+            taken: state.taken,
+            skips_at: state.skips_at,
+            postings_at: state.postings_at,
+        }
     }
 }
 
-// Puts a state together again.
-fn state_of(progress: Progress, docs: [u32; 128], freqs: [u32; 128]) -> PostingsSerializer
-    ensures { result ≡ state_of progress docs freqs }
-{
-    PostingsSerializer {
-        docs,
-        freqs,
-        mode: progress.mode,
-        recording: progress.recording,
-        waiting: progress.waiting,
-        last_doc: progress.last_doc,
-        taken: progress.taken,
-        skips_at: progress.skips_at,
-        postings_at: progress.postings_at,
+impl Progress {
+    // Puts a state together again.
+    fn with_arrays(self, docs: [u32; 128], freqs: [u32; 128]) -> PostingsSerializer
+        ensures { result ≡ state_of self docs freqs }
+    {
+        PostingsSerializer {
+            docs,
+            freqs,
+            mode: self.mode,
+            recording: self.recording,
+            waiting: self.waiting,
+            last_doc: self.last_doc,
+            taken: self.taken,
+            skips_at: self.skips_at,
+            postings_at: self.postings_at,
+        }
     }
 }
 
-// A state that holds no document.
-fn fresh(mode: u8, recording: bool) -> PostingsSerializer
-    ensures { result ≡ specs.fresh mode recording }
-{
-    let docs = [0u32; 128];
-    let freqs = [0u32; 128];
-    state_of(fresh_progress(mode, recording), docs, freqs)
+impl PostingsSerializer {
+    // A state that holds no document.
+    fn fresh(mode: u8, recording: bool) -> PostingsSerializer
+        ensures { result ≡ specs.fresh mode recording }
+    {
+        Progress::fresh(mode, recording).with_arrays([0u32; 128], [0u32; 128])
+    }
 }
 
 // Begins a term: its mode, 0 or 1, and whether its frequencies are recorded.
 pub fn new_term(mode: u8, recording: bool) -> Step
     ensures { result ≡ beginning mode recording }
 {
-    let state = fresh(mode, recording);
+    let state = PostingsSerializer::fresh(mode, recording);
     match new_term_in(mode, recording) {
-        Progressed::At(_) => Step {
-            answer: Accepted::Yes,
+        Ok(_) => Step {
+            answer: Ok(()),
             state,
         },
-        Progressed::Refused(n) => Step {
-            answer: Accepted::Refused(n),
+        Err(refusal) => Step {
+            answer: Err(refusal),
             state,
         },
     }
@@ -159,14 +147,21 @@ pub fn write_doc(
 {
     let mut docs = state.docs;
     let mut freqs = state.freqs;
-    let was = progress_of(state);
-    match write_doc_in(was, doc, freq, &mut docs, &mut freqs, skips, postings) {
-        Progressed::At(next) => Step {
-            answer: Accepted::Yes,
-            state: state_of(next, docs, freqs),
+    match write_doc_in(
+        state.into(),
+        doc,
+        freq,
+        &mut docs,
+        &mut freqs,
+        skips,
+        postings,
+    ) {
+        Ok(next) => Step {
+            answer: Ok(()),
+            state: next.with_arrays(docs, freqs),
         },
-        Progressed::Refused(n) => Step {
-            answer: Accepted::Refused(n),
+        Err(refusal) => Step {
+            answer: Err(refusal),
             state,
         },
     }
@@ -184,14 +179,21 @@ pub fn close_term(
 {
     let docs = state.docs;
     let freqs = state.freqs;
-    let was = progress_of(state);
-    let closed = close_term_in(was, announced, &docs, &freqs, skips, postings, output);
+    let closed = close_term_in(
+        state.into(),
+        announced,
+        &docs,
+        &freqs,
+        skips,
+        postings,
+        output,
+    );
     let answer = closed.answer;
-    let Written::Bytes(_) = answer else {
-        return ClosedTerm { answer, state };
-    };
-    ClosedTerm {
-        answer,
-        state: fresh(state.mode, state.recording),
+    match answer {
+        Ok(_) => ClosedTerm {
+            answer,
+            state: PostingsSerializer::fresh(state.mode, state.recording),
+        },
+        Err(_) => ClosedTerm { answer, state },
     }
 }

@@ -28,8 +28,7 @@ use Rattle.serializer.specs.Whole.{ListSized, TailOf, full_blocks_of, blocks_fit
 use Rattle.serializer.specs.Writer.{least_after_of}
 use Rattle.serializer.proofs.list.Blocks.{least_after_of-last, blocks-next}
 use Rattle.serializer.proofs.Laws.ImagePieces.{head_none, head_some, image-is}
-use Rattle.serializer.proofs.block.BlockPlaced.{block_of-length}
-use Rattle.serializer.proofs.document.TakeCases.{least-some}
+use Rattle.serializer.proofs.block.BlockPlaced.{last-at, block_of-length}
 
 -- ---- the ids of a block
 
@@ -50,7 +49,7 @@ least-next n ds h =
     let k : ℕ = 128 * (n + 1) in
     let long : length (take k ds) ≡ k = length-take-le k ds (omega arith) in
     let end : k - 1 ≡ 128 * n + 127 = omega arith in
-    least-some 0 (take k ds) (omega arith) ∙ rw (long, end, get_or-take k ds (128 * n + 127) 0 (omega arith))
+    least_after_of-last 0 (take k ds) (omega arith) ∙ rw (last-at, long, end, get_or-take k ds (128 * n + 127) 0 (omega arith))
 
 -- .. is a number of 32 bits
 pub id_below : (ds : List ℕ) (i : ℕ) → rising 0 ds ≡ true → get_or ds i 0 < TERMINATED

@@ -3,14 +3,14 @@
 -- bytes. The skip length, 10 bytes at most, is spared by any full block. No list has more than 2147483647 documents, so that an image is
 -- shorter than 2 ^ 63.
 -- Assumes nothing.
-use Rattle.std.specs.Prelude.{◌≡◌, ℕ, zero, suc, ◌+◌, ◌-◌, ◌*◌, ◌/◌, ◌%◌, ◌^◌, ◌<◌, ◌≤◌, min, Bool, true, false, List, [], ◌∷◌, ◌++◌, length, take, drop}
+use Rattle.std.specs.Prelude.{◌≡◌, ℕ, zero, suc, ◌+◌, ◌-◌, ◌*◌, ◌/◌, ◌%◌, ◌^◌, ◌<◌, ◌≤◌, min, Bool, true, false, List, [], ◌∷◌, ◌++◌, length, take, drop, Ok}
 use mathlib.Core.Path.{refl}
 use native.Mathlib.Nat.{le_trans, suc-mul}
 use native.Mathlib.Omega.{arith}
 use lib.ListN.{length-append, length-drop}
 use Rattle.format.specs.declared.IndexRecordOption.{IndexRecordOption}
 use Rattle.format.specs.declared.IndexRecordOption.TheVariants.{Basic, WithFreqs}
-use Rattle.format.specs.Basics.{ok, last_of, TERMINATED, AllBelow}
+use Rattle.format.specs.Basics.{last_of, TERMINATED, AllBelow}
 use Rattle.format.specs.Bitpacking.{width, bits_f, largest}
 use Rattle.format.specs.SkipEntry.{has_freq_of, entry_size_of}
 use Rattle.format.specs.Values.{gaps, rising}
@@ -136,7 +136,7 @@ unfolding output_enough
 output_below Basic n h = omega arith
 output_below WithFreqs n h = omega arith
 
-module _ (mode : ℕ) (recording : Bool) (ds fs : List ℕ) (small : AllBelow (2 ^ 32) fs) {bytes : List ℕ} (w : written mode recording ds fs ≡ ok bytes) where
+module _ (mode : ℕ) (recording : Bool) (ds fs : List ℕ) (small : AllBelow (2 ^ 32) fs) {bytes : List ℕ} (w : written mode recording ds fs ≡ Ok bytes) where
   abbrev option : IndexRecordOption
   option = kept_in mode recording
 
@@ -156,7 +156,7 @@ module _ (mode : ℕ) (recording : Bool) (ds fs : List ℕ) (small : AllBelow (2
 
   -- .. and the list is written
   pub enough_listed : {skips postings output : List ℕ} → Enough option (length ds) skips postings output
-      → listing mode recording ds fs skips postings output ≡ ok bytes
+      → listing mode recording ds fs skips postings output ≡ Ok bytes
   enough_listed e = (whole-list-writes mode recording ds fs _ _ _).1 (w, enough-room e)
 
   -- an image's length is never taken for a refusal

@@ -1,7 +1,8 @@
 -- Laws of an image in pieces: an image is its head, its blocks and its tail one behind the other, so where all of it fits each piece
 -- does, and the pieces put in turn are the image put at once.
 -- Assumes nothing.
-use Rattle.std.specs.Prelude.{◌≡◌, ℕ, zero, suc, ◌+◌, ◌≤◌, Bool, true, false, leb, List, [], ◌++◌, length}
+use Rattle.format.specs.declared.refusal.Refusal.TheVariants.{NoRoom}
+use Rattle.std.specs.Prelude.{◌≡◌, ℕ, zero, suc, ◌+◌, ◌≤◌, Bool, true, false, leb, List, [], ◌++◌, length, Option, Some, Ok, Err}
 use mathlib.Core.Path.{refl, sym, ap, ◌∙◌}
 use native.Mathlib.Nat.{add-zero, zero-add, lt_of_not-le}
 use native.Mathlib.Decide.{dec_le}
@@ -9,16 +10,15 @@ use native.Mathlib.Omega.{arith}
 use lib.ListN.{length-append}
 use borrow.Author.Tests.{le-leb, lt-leb, leb-false}
 use Rattle.format.specs.declared.IndexRecordOption.{IndexRecordOption}
-use Rattle.format.specs.declared.Next.{Next}
 use Rattle.format.specs.Basics.{choose, fits_at, put_at, next_at}
-use Rattle.format.specs.Refusal.{no_room}
 use Rattle.format.specs.SkipEntry.{has_freq_of}
 use Rattle.format.specs.Values.{gaps_from}
 use Rattle.format.specs.Vint.{vint, vints}
 use Rattle.format.specs.Written.{only_if, head_of, tail_of_of, image_with}
 use Rattle.format.proofs.Area.{put_at-nil, put_at-append, put_at-refused, next_at-fits, length-put_at}
-use Rattle.serializer.specs.declared.Written.TheVariants.{Bytes, Refused}
-use Rattle.serializer.specs.Pieces.{place_of, BytesPut, ImagePut}
+use Rattle.std.specs.Option.{IsSome}
+use Rattle.std.proofs.lemmas.Option.{same_Some}
+use Rattle.serializer.specs.Pieces.{BytesPut, ImagePut}
 
 -- ---- tests
 
@@ -67,10 +67,15 @@ image-length n skips postings option offset ds fs =
 pub put-none : (p : ℕ) (area : List ℕ) → BytesPut p [] area area p
 put-none p area = record { behind = sym (add-zero p); area_after = sym (put_at-nil p area) }
 
-pub put_next : (p : ℕ) (bs area : List ℕ) {area' : List ℕ} {next : Next} {r : ℕ} → p + length bs ≤ length area → r ≡ place_of next
+-- bytes that fit are put, so that there is a place behind them ..
+pub put_there : (p : ℕ) (bs area : List ℕ) {next : Option ℕ} → p + length bs ≤ length area → next ≡ next_at p bs area → IsSome next
+put_there p bs area h next = rw (next, next_at-fits p bs area h)
+
+-- .. which is this one
+pub put_next : (p : ℕ) (bs area : List ℕ) {area' : List ℕ} {next : Option ℕ} {r : ℕ} → p + length bs ≤ length area → next ≡ Some r
     → next ≡ next_at p bs area → area' ≡ put_at p bs area → BytesPut p bs area area' r
-unfolding place_of
-put_next p bs area h place next put = record { behind = place ∙ ap place_of (next ∙ next_at-fits p bs area h); area_after = put }
+put_next p bs area h place next put =
+    record { behind = same_Some _ _ (sym place ∙ (next ∙ next_at-fits p bs area h)); area_after = put }
 
 module _ (p : ℕ) (a b area : List ℕ) {middle : List ℕ} {m : ℕ} (h : p + length (a ++ b) ≤ length area) (first : BytesPut p a area middle m) where
   pub room-behind : m + length b ≤ length middle
@@ -85,11 +90,11 @@ module _ (p : ℕ) (a b area : List ℕ) {middle : List ℕ} {m : ℕ} (h : p + 
 -- ---- the image at the front of the output
 
 module _ (image output : List ℕ) where
-  pub image-refused : leb (length image) (length output) ≡ false → ImagePut image output output (Refused no_room)
+  pub image-refused : leb (length image) (length output) ≡ false → ImagePut image output output (Err NoRoom)
   unfolding choose fits_at
   image-refused short = record { answer = rw (zero-add, short); output_after = sym (put_at-refused 0 image output (omega (arith, leb-false))) }
 
   pub image-put : {output' : List ℕ} {r : ℕ} → leb (length image) (length output) ≡ true → BytesPut 0 image output output' r
-      → ImagePut image output output' (Bytes r)
+      → ImagePut image output output' (Ok r)
   unfolding choose fits_at
-  image-put room put = record { answer = ap Bytes (put.behind ∙ zero-add _) ∙ rw (zero-add, room); output_after = put.area_after }
+  image-put room put = record { answer = ap Ok (put.behind ∙ zero-add _) ∙ rw (zero-add, room); output_after = put.area_after }

@@ -1,7 +1,9 @@
 -- Documents handed to the writer one by one, from any state that calls reach. What one call answers and leaves is known, and what
 -- lies ahead behind it; so one induction on the documents tells what all the calls answer and leave.
 -- Assumes nothing.
-use Rattle.std.specs.Prelude.{◌≡◌, ℕ, ◌+◌, ◌-◌, ◌^◌, ◌<◌, Bool, true, false, ◌&&◌ as and, List, [], ◌∷◌, ◌++◌, length}
+use Rattle.format.specs.declared.refusal.Refusal.{Refusal}
+use Rattle.format.specs.declared.refusal.Refusal.TheVariants.{NoRoom}
+use Rattle.std.specs.Prelude.{◌≡◌, ℕ, ◌+◌, ◌-◌, ◌^◌, ◌<◌, Bool, true, false, ◌&&◌ as and, List, [], ◌∷◌, ◌++◌, length, Ok, Err}
 use mathlib.Core.Bool.{and-eq-true_iff, false≢true}
 use mathlib.Core.List.{append-nil}
 use mathlib.Core.Path.{refl, sym, ◌∙◌}
@@ -10,8 +12,7 @@ use native.Mathlib.Decide.{dec_lt}
 use native.Mathlib.Omega.{arith}
 use borrow.Author.Tests.{leb-true}
 use Rattle.format.specs.declared.IndexRecordOption.{IndexRecordOption}
-use Rattle.format.specs.Basics.{Outcome, ok, refused, and_then, ask, put_at, fits_at, AllBelow, or_before}
-use Rattle.format.specs.Refusal.{no_room}
+use Rattle.format.specs.Basics.{Outcome, and_then, ask, put_at, fits_at, AllBelow, or_before}
 use Rattle.format.specs.Written.{entry_of, block_of, Parts, blocks_of, tail_of_of}
 use Rattle.format.specs.Accepted.{take_doc, take_docs}
 use Rattle.format.proofs.Outcome.{refused≢ok}
@@ -43,11 +44,11 @@ take_all_docs-cons s d ds f fs skips postings = refl
 -- all documents were taken
 pub record Ended (s : PostingsSerializer) (ds fs skips postings : List ℕ) (r : Outcome Areas) : Type 0 where
   pub areas : Areas
-  pub answer : r ≡ ok areas
+  pub answer : r ≡ Ok areas
   pub held : Held areas.state areas.skips areas.postings
   pub taken : areas.state.taken ≡ s.taken + length ds
   pub option_is : option_of areas.state ≡ option_of s
-  pub next_is : take_docs (option_of s) (next_least s) ds fs ≡ ok (next_least areas.state)
+  pub next_is : take_docs (option_of s) (next_least s) ds fs ≡ Ok (next_least areas.state)
   pub skips_wrote :
       Wrote skips s.skips_at (ahead blocks_of s ds fs).skips (ahead parts s ds fs).skips
       areas.skips areas.state.skips_at []
@@ -58,29 +59,29 @@ pub record Ended (s : PostingsSerializer) (ds fs skips postings : List ℕ) (r :
 
 -- 15 where the blocks don't fit; else what the definitions refuse; else all were taken
 pub data Answers (P : Outcome Areas → Type 0) : Bool → Outcome ℕ → Outcome Areas → Type 0 where
-  without_room : {o : Outcome ℕ} {r : Outcome Areas} → r ≡ refused no_room → Answers P false o r
-  refuses : {n : ℕ} {r : Outcome Areas} → r ≡ refused n → Answers P true (refused n) r
-  ends : {next : ℕ} {r : Outcome Areas} → P r → Answers P true (ok next) r
+  without_room : {o : Outcome ℕ} {r : Outcome Areas} → r ≡ Err NoRoom → Answers P false o r
+  refuses : {n : Refusal} {r : Outcome Areas} → r ≡ Err n → Answers P true (Err n) r
+  ends : {next : ℕ} {r : Outcome Areas} → P r → Answers P true (Ok next) r
 
 module _ {P : Outcome Areas → Type 0} where
-  pub answers-room : {b : Bool} {o : Outcome ℕ} {r : Outcome Areas} → Answers P b o r → b ≡ false → r ≡ refused no_room
+  pub answers-room : {b : Bool} {o : Outcome ℕ} {r : Outcome Areas} → Answers P b o r → b ≡ false → r ≡ Err NoRoom
   answers-room (without_room e) f = e
   answers-room (refuses e) f = absurd (false≢true (sym f))
   answers-room (ends p) f = absurd (false≢true (sym f))
 
-  pub answers-refused : {b : Bool} {o : Outcome ℕ} {r : Outcome Areas} {n : ℕ} → Answers P b o r → b ≡ true → o ≡ refused n
-      → r ≡ refused n
+  pub answers-refused : {b : Bool} {o : Outcome ℕ} {r : Outcome Areas} {n : Refusal} → Answers P b o r → b ≡ true → o ≡ Err n
+      → r ≡ Err n
   answers-refused (without_room e) f t = absurd (false≢true f)
   answers-refused (refuses e) f t = cc
   answers-refused (ends p) f t = absurd (refused≢ok (sym t))
 
-  pub answers-ok : {b : Bool} {o : Outcome ℕ} {r : Outcome Areas} {next : ℕ} → Answers P b o r → b ≡ true → o ≡ ok next → P r
+  pub answers-ok : {b : Bool} {o : Outcome ℕ} {r : Outcome Areas} {next : ℕ} → Answers P b o r → b ≡ true → o ≡ Ok next → P r
   answers-ok (without_room e) f t = absurd (false≢true f)
   answers-ok (refuses e) f t = absurd (refused≢ok t)
   answers-ok (ends p) f t = p
 
-  pub answers-taken : {b : Bool} {o : Outcome ℕ} {r : Outcome Areas} {a : Areas} → Answers P b o r → r ≡ ok a
-      → (next : ℕ) × (b ≡ true) × (o ≡ ok next) × P r
+  pub answers-taken : {b : Bool} {o : Outcome ℕ} {r : Outcome Areas} {a : Areas} → Answers P b o r → r ≡ Ok a
+      → (next : ℕ) × (b ≡ true) × (o ≡ Ok next) × P r
   answers-taken (without_room e) all = absurd (refused≢ok (sym e ∙ all))
   answers-taken (refuses e) all = absurd (refused≢ok (sym e ∙ all))
   answers-taken (ends {next} p) all = (next, refl, refl, p)
@@ -116,7 +117,7 @@ module _ {s : PostingsSerializer} {skips postings : List ℕ} (h : Held s skips 
         postings_wrote = rw (blocks, all, append-nil (waiting_docs s), append-nil (waiting_freqs s)) (wrote_none postings _ _);
       }))
 
-  document_refused : (d f : ℕ) {n : ℕ} (ds fs : List ℕ) → take_doc (option_of s) (next_least s) d f ≡ refused n
+  document_refused : (d f : ℕ) {n : Refusal} (ds fs : List ℕ) → take_doc (option_of s) (next_least s) d f ≡ Err n
       → Claim s (d ∷ ds) (f ∷ fs) skips postings
   unfolding and_then or_before
   document_refused d f ds fs e =
@@ -211,8 +212,8 @@ module _ {s : PostingsSerializer} {skips postings : List ℕ} {d f : ℕ} (a : A
 
 document : {s : PostingsSerializer} {skips postings : List ℕ} → Held s skips postings → (d f : ℕ) → f < 2 ^ 32 → (ds fs : List ℕ)
     → Later ds fs → (o : Outcome ℕ) → take_doc (option_of s) (next_least s) d f ≡ o → Claim s (d ∷ ds) (f ∷ fs) skips postings
-document h d f small ds fs later (refused n) e = document_refused h d f ds fs e
-document {s} h d f small ds fs later (ok next) e =
+document h d f small ds fs later (Err n) e = document_refused h d f ds fs e
+document {s} h d f small ds fs later (Ok next) e =
     let a = accepts h d f small e in
     elim (dec_lt s.waiting 127) [
       | yes few ↦ document_waits a ds fs later few

@@ -2,13 +2,13 @@
 -- blocks are in the areas, and closing puts together their image. One document more is answered as the definitions ask it behind them,
 -- and 15 where the blocks with it don't fit: handed in with the others, it is the last of a longer list of such calls.
 -- Assumes nothing.
-use Rattle.std.specs.Prelude.{◌≡◌, ℕ, ◌^◌, ◌<◌, ◌≤◌, Bool, true, false, eqb, List, [], ◌∷◌, ◌++◌, length}
+use Rattle.format.specs.declared.refusal.Refusal.TheVariants.{NoRoom, CountMismatch}
+use Rattle.std.specs.Prelude.{◌≡◌, ℕ, ◌^◌, ◌<◌, ◌≤◌, Bool, true, false, eqb, List, [], ◌∷◌, ◌++◌, length, Ok, Err}
 use mathlib.Core.Path.{refl, sym, ◌∙◌}
 use native.Mathlib.Omega.{arith}
 use lib.ListN.{length-append}
 use Rattle.format.specs.declared.IndexRecordOption.{IndexRecordOption}
-use Rattle.format.specs.Basics.{Outcome, ok, refused, and_then, ask, put_at, fits_at, AllBelow}
-use Rattle.format.specs.Refusal.{no_room, count_mismatch}
+use Rattle.format.specs.Basics.{Outcome, and_then, ask, put_at, fits_at, AllBelow}
 use Rattle.format.specs.Written.{image}
 use Rattle.format.specs.Accepted.{kept_in, take_doc, take_docs}
 use Rattle.format.proofs.Outcome.{ok_same}
@@ -24,17 +24,17 @@ use Rattle.serializer.proofs.SingleCalls.WritesList.{accepted-all, begun_skips, 
 
 -- ---- one more at the end
 
-and_then-same : {A : Type 0} (o : Outcome A) → and_then o (λ a. ok a) ≡ o
+and_then-same : {A : Type 0} (o : Outcome A) → and_then o (λ a. Ok a) ≡ o
 unfolding and_then
-and_then-same (ok a) = refl
-and_then-same (refused n) = refl
+and_then-same (Ok a) = refl
+and_then-same (Err n) = refl
 
 -- what follows each outcome alike follows them one behind the other
 and_then_then : {A B C : Type 0} (f : A → Outcome B) (g : B → Outcome C) (h : A → Outcome C) → ((a : A) → h a ≡ and_then (f a) g) → (o : Outcome A)
     → and_then o h ≡ and_then (and_then o f) g
 unfolding and_then
-and_then_then f g h e (ok a) = e a
-and_then_then f g h e (refused n) = refl
+and_then_then f g h e (Ok a) = e a
+and_then_then f g h e (Err n) = refl
 
 docs-last : (option : IndexRecordOption) (least : ℕ) (ds fs : List ℕ) (d f : ℕ) → length ds ≡ length fs
     → take_docs option least (ds ++ (d ∷ [])) (fs ++ (f ∷ [])) ≡ and_then (take_docs option least ds fs) λ next. take_doc option next d f
@@ -62,38 +62,38 @@ below_last m (k ∷ ns) n a h = (a.0, below_last m ns n a.1 h)
 
 pub record TakenAll (mode : ℕ) (recording : Bool) (ds fs skips postings : List ℕ) (a : Areas) : Type 0 where
   pub least : ℕ
-  pub docs_accepted : take_docs (kept_in mode recording) 0 ds fs ≡ ok least
+  pub docs_accepted : take_docs (kept_in mode recording) 0 ds fs ≡ Ok least
   pub fit : blocks_fit (kept_in mode recording) ds fs skips postings ≡ true
   pub skips_after : a.skips ≡ put_at 0 (full_blocks_of (kept_in mode recording) ds fs).skips skips
   pub postings_after : a.postings ≡ put_at 0 (full_blocks_of (kept_in mode recording) ds fs).postings postings
   pub closes : (announced : ℕ) (output : List ℕ)
       → closing a.state announced a.skips a.postings output
-      ≡ (ask (eqb (length ds) announced) count_mismatch λ _.
-      ask (fits_at 0 (image (kept_in mode recording) ds fs) output) no_room λ _. ok (image (kept_in mode recording) ds fs))
+      ≡ (ask (eqb (length ds) announced) CountMismatch λ _.
+      ask (fits_at 0 (image (kept_in mode recording) ds fs) output) NoRoom λ _. Ok (image (kept_in mode recording) ds fs))
   pub one_more : (d f : ℕ) → f < 2 ^ 32
       → accepted (taking a.state d f a.skips a.postings)
       ≡ accepted (and_then (take_doc (kept_in mode recording) least d f) λ next.
-      ask (blocks_fit (kept_in mode recording) (ds ++ (d ∷ [])) (fs ++ (f ∷ [])) skips postings) no_room λ _. ok next)
+      ask (blocks_fit (kept_in mode recording) (ds ++ (d ∷ [])) (fs ++ (f ∷ [])) skips postings) NoRoom λ _. Ok next)
 
 module _ {mode : ℕ} {recording : Bool} {s : PostingsSerializer} (begun : Begun mode recording s) (skips postings : List ℕ) (known : mode ≤ 1) where
   abbrev option : IndexRecordOption
   option = kept_in mode recording
 
-  room-is : (ds fs : List ℕ) {least : ℕ} → take_docs option 0 ds fs ≡ ok least
+  room-is : (ds fs : List ℕ) {least : ℕ} → take_docs option 0 ds fs ≡ Ok least
       → room (accepted_blocks mode recording ds fs) s skips postings ≡ blocks_fit option ds fs skips postings
   unfolding blocks_fit full_blocks_of
   room-is ds fs t = rw (accepted-all option 0 ds fs t, begun_skips begun, begun_postings begun)
 
   -- what the calls answer where the documents are accepted together
-  accepted-calls : (ds fs : List ℕ) → AllBelow (2 ^ 32) fs → length ds ≡ length fs → {least : ℕ} → take_docs option 0 ds fs ≡ ok least
-      → Answers (Ended s ds fs skips postings) (blocks_fit option ds fs skips postings) (ok least)
+  accepted-calls : (ds fs : List ℕ) → AllBelow (2 ^ 32) fs → length ds ≡ length fs → {least : ℕ} → take_docs option 0 ds fs ≡ Ok least
+      → Answers (Ended s ds fs skips postings) (blocks_fit option ds fs skips postings) (Ok least)
       (take_all_docs s ds fs skips postings)
   accepted-calls ds fs small as_many t = rw (room-is ds fs t, t) at (answers begun ds fs skips postings small known as_many)
 
   module _ (ds fs : List ℕ) (small : AllBelow (2 ^ 32) fs) (as_many : length ds ≡ length fs) where
     -- one document more, behind calls that ended
     module _ {r : Outcome Areas} (ended : Ended s ds fs skips postings r) (all : take_all_docs s ds fs skips postings ≡ r)
-        {least : ℕ} (t : take_docs option 0 ds fs ≡ ok least) (d f : ℕ) (below : f < 2 ^ 32) where
+        {least : ℕ} (t : take_docs option 0 ds fs ≡ Ok least) (d f : ℕ) (below : f < 2 ^ 32) where
       abbrev ds' : List ℕ
       ds' = ds ++ (d ∷ [])
 
@@ -114,16 +114,16 @@ module _ {mode : ℕ} {recording : Bool} {s : PostingsSerializer} (begun : Begun
       unfolding and_then
       longer = rw (all-last s ds fs skips postings d f as_many, all, ended.answer)
 
-      longer_calls : {next : ℕ} → take_doc option least d f ≡ ok next
-          → Answers (Ended s ds' fs' skips postings) (blocks_fit option ds' fs' skips postings) (ok next)
+      longer_calls : {next : ℕ} → take_doc option least d f ≡ Ok next
+          → Answers (Ended s ds' fs' skips postings) (blocks_fit option ds' fs' skips postings) (Ok next)
           (take_all_docs s ds' fs' skips postings)
       unfolding and_then
       longer_calls e =
           accepted-calls ds' fs' (below_last (2 ^ 32) fs f small below) (rw (length-append ds (d ∷ []), length-append fs (f ∷ []), as_many))
           (rw (docs-last option 0 ds fs d f as_many, t) e)
 
-      room_for : {next : ℕ} → take_doc option least d f ≡ ok next → (b : Bool) → blocks_fit option ds' fs' skips postings ≡ b
-          → accepted taken ≡ accepted (ask b no_room λ _. ok next)
+      room_for : {next : ℕ} → take_doc option least d f ≡ Ok next → (b : Bool) → blocks_fit option ds' fs' skips postings ≡ b
+          → accepted taken ≡ accepted (ask b NoRoom λ _. Ok next)
       unfolding accepted ask
       room_for e true fit =
           let ended' = answers-ok (longer_calls e) fit refl in
@@ -131,12 +131,12 @@ module _ {mode : ℕ} {recording : Bool} {s : PostingsSerializer} (begun : Begun
       room_for e false fit = rw (sym longer ∙ answers-room (longer_calls e) fit)
 
       document_more : (o : Outcome ℕ) → take_doc option least d f ≡ o
-          → accepted taken ≡ accepted (and_then o λ next. ask (blocks_fit option ds' fs' skips postings) no_room λ _. ok next)
+          → accepted taken ≡ accepted (and_then o λ next. ask (blocks_fit option ds' fs' skips postings) NoRoom λ _. Ok next)
       unfolding accepted and_then
-      document_more (refused n) e = rw (call-refused ended.held d f (asked ∙ e))
-      document_more (ok next) e = room_for e _ refl
+      document_more (Err n) e = rw (call-refused ended.held d f (asked ∙ e))
+      document_more (Ok next) e = room_for e _ refl
 
-    pub taken-all : {a : Areas} → take_all_docs s ds fs skips postings ≡ ok a → TakenAll mode recording ds fs skips postings a
+    pub taken-all : {a : Areas} → take_all_docs s ds fs skips postings ≡ Ok a → TakenAll mode recording ds fs skips postings a
     unfolding full_blocks_of
     taken-all all =
         let k = answers-taken (answers begun ds fs skips postings small known as_many) all in

@@ -2,7 +2,9 @@
 -- definitions accept a document and the areas have room for its block; behind the last one the areas hold the full blocks and their
 -- entries, and the state the tail, so that closing puts together the image.
 -- Assumes nothing.
-use Rattle.std.specs.Prelude.{◌≡◌, ℕ, suc, ◌+◌, ◌-◌, ◌/◌, ◌^◌, ◌<◌, ◌≤◌, Bool, true, false, eqb, ◌⊎◌, List, [], ◌∷◌, ◌++◌, length, take}
+use Rattle.format.specs.declared.refusal.Refusal.{Refusal}
+use Rattle.format.specs.declared.refusal.Refusal.TheVariants.{NoRoom, CountMismatch, StateBroken}
+use Rattle.std.specs.Prelude.{◌≡◌, ℕ, suc, ◌+◌, ◌-◌, ◌/◌, ◌^◌, ◌<◌, ◌≤◌, Bool, true, false, eqb, ◌⊎◌, List, [], ◌∷◌, ◌++◌, length, take, Ok, Err}
 use mathlib.Core.Bool.{and-false}
 use mathlib.Core.List.{append-nil}
 use mathlib.Core.Logic.{inl, inr}
@@ -12,8 +14,7 @@ use native.Mathlib.Numerals.{one-add}
 use native.Mathlib.Omega.{arith}
 use borrow.Author.Tests.{le-leb, lt-leb, eq-eqb, ne_eqb}
 use Rattle.format.specs.declared.IndexRecordOption.{IndexRecordOption}
-use Rattle.format.specs.Basics.{Outcome, ok, refused, and_then, ask, choose, put_at, fits_at, AllBelow, or_before}
-use Rattle.format.specs.Refusal.{no_room, count_mismatch, state_broken}
+use Rattle.format.specs.Basics.{Outcome, and_then, ask, choose, put_at, fits_at, AllBelow, or_before}
 use Rattle.format.specs.Values.{rising, countable}
 use Rattle.format.specs.Written.{Parts, blocks_of, tail_of_of, image_with, image}
 use Rattle.format.specs.Accepted.{kept_in, begin, take_doc, take_docs, written}
@@ -35,9 +36,9 @@ use Rattle.serializer.proofs.SingleCalls.AllDocuments.{Ended, Answers, answers-r
 
 closing-is : (s : PostingsSerializer) (announced : ℕ) (skips postings output : List ℕ)
     → closing s announced skips postings output
-    ≡ (ask (in_bounds_of s skips postings) state_broken λ _.
-    ask (eqb s.taken announced) count_mismatch λ _.
-    ask (fits_at 0 (image_of s skips postings) output) no_room λ _. ok (image_of s skips postings))
+    ≡ (ask (in_bounds_of s skips postings) StateBroken λ _.
+    ask (eqb s.taken announced) CountMismatch λ _.
+    ask (fits_at 0 (image_of s skips postings) output) NoRoom λ _. Ok (image_of s skips postings))
 unfolding closing
 closing-is s announced skips postings output = refl
 
@@ -52,7 +53,7 @@ image_of-is s skips postings = refl
 
 -- ---- how many documents are accepted
 
-pub accepted-all : (option : IndexRecordOption) (least : ℕ) (ds fs : List ℕ) {next : ℕ} → take_docs option least ds fs ≡ ok next
+pub accepted-all : (option : IndexRecordOption) (least : ℕ) (ds fs : List ℕ) {next : ℕ} → take_docs option least ds fs ≡ Ok next
     → accepted_count option least ds fs ≡ length ds
 unfolding accepted_count take_docs or_before
 accepted-all option least [] fs t = refl
@@ -63,8 +64,8 @@ accepted-all option least (d ∷ ds) (f ∷ fs) t =
 
 one-more-le : {n : ℕ} (count : ℕ → ℕ) → ((next : ℕ) → count next ≤ n) → (o : Outcome ℕ) → or_before (λ next. 1 + count next) o 0 ≤ suc n
 unfolding or_before
-one-more-le count h (ok next) = omega (arith, h next)
-one-more-le count h (refused m) = omega arith
+one-more-le count h (Ok next) = omega (arith, h next)
+one-more-le count h (Err m) = omega arith
 
 accepted-le : (option : IndexRecordOption) (least : ℕ) (ds fs : List ℕ) → accepted_count option least ds fs ≤ length ds
 unfolding accepted_count
@@ -74,10 +75,10 @@ accepted-le option least (d ∷ ds) (f ∷ fs) = one-more-le _ (λ next. accepte
 
 -- ---- a refusal comes from the documents
 
-and_then-refused : {A B : Type 0} {n : ℕ} (o : Outcome A) (f : A → B) → and_then o (λ a. ok (f a)) ≡ refused n → o ≡ refused n
+and_then-refused : {A B : Type 0} {n : Refusal} (o : Outcome A) (f : A → B) → and_then o (λ a. Ok (f a)) ≡ Err n → o ≡ Err n
 unfolding and_then
-and_then-refused (ok a) f e = absurd (refused≢ok (sym e))
-and_then-refused (refused m) f e = cc
+and_then-refused (Ok a) f e = absurd (refused≢ok (sym e))
+and_then-refused (Err m) f e = cc
 
 -- ---- a term just begun
 
@@ -153,7 +154,7 @@ module _ {mode : ℕ} {recording : Bool} {s : PostingsSerializer} (begun : Begun
   abbrev blocks : Parts
   blocks = accepted_blocks mode recording ds fs
 
-  written_is : written mode recording ds fs ≡ and_then (take_docs option 0 ds fs) λ _. ok (image option ds fs)
+  written_is : written mode recording ds fs ≡ and_then (take_docs option 0 ds fs) λ _. Ok (image option ds fs)
   unfolding written begin ask and_then
   written_is = rw (known_mode_lem _ known, eq-eqb _ _ as_many)
 
@@ -189,8 +190,8 @@ module _ {mode : ℕ} {recording : Bool} {s : PostingsSerializer} (begun : Begun
 
     pub ended-closes : (announced : ℕ) (output : List ℕ)
         → closing ended.areas.state announced ended.areas.skips ended.areas.postings output
-        ≡ (ask (eqb (length ds) announced) count_mismatch λ _.
-        ask (fits_at 0 (image option ds fs) output) no_room λ _. ok (image option ds fs))
+        ≡ (ask (eqb (length ds) announced) CountMismatch λ _.
+        ask (fits_at 0 (image option ds fs) output) NoRoom λ _. Ok (image option ds fs))
     unfolding ask
     ended-closes announced output = rw (closing-is, in_bounds ended.held, ended-image, taken-all)
 
@@ -216,29 +217,29 @@ module _ {mode : ℕ} {recording : Bool} {s : PostingsSerializer} (begun : Begun
           miscounted = λ announced output other. ended-closes announced output ∙ rw (ne_eqb (length ds) announced (λ e. other (sym e)));
         }
 
-  calls_write : {bytes : List ℕ} → written mode recording ds fs ≡ ok bytes → bytes ≡ image option ds fs
+  calls_write : {bytes : List ℕ} → written mode recording ds fs ≡ Ok bytes → bytes ≡ image option ds fs
       → length (blocks_of option (length ds / 128) 0 ds fs).skips ≤ length skips
       → length (blocks_of option (length ds / 128) 0 ds fs).postings ≤ length postings
       → WritesList mode recording s ds fs skips postings bytes
   calls_write e same a b =
-      let t = and_then-ok (take_docs option 0 ds fs) (λ _. ok (image option ds fs)) (sym written_is ∙ e) in
+      let t = and_then-ok (take_docs option 0 ds fs) (λ _. Ok (image option ds fs)) (sym written_is ∙ e) in
       let all : accepted_count option 0 ds fs ≡ length ds = accepted-all option 0 ds fs t.1 in
       rw same (ended-writes (answers-ok answers (room-there (rw all a) (rw all b)) t.1) all refl)
 
   -- A list refused for a document (11 to 13) is refused by the call that it is handed to, where there is room for the full blocks of
   -- the documents before it ..
-  pub single_calls_refuse : {n : ℕ} → written mode recording ds fs ≡ refused n
+  pub single_calls_refuse : {n : Refusal} → written mode recording ds fs ≡ Err n
       → length (accepted_blocks mode recording ds fs).skips ≤ length skips
       → length (accepted_blocks mode recording ds fs).postings ≤ length postings
-      → take_all_docs s ds fs skips postings ≡ refused n
+      → take_all_docs s ds fs skips postings ≡ Err n
   single_calls_refuse e a b =
       answers-refused answers (room-there a b) (and_then-refused _ (λ _. image option ds fs) (sym written_is ∙ e))
 
   -- .. so too where there is room for all full blocks of the list ..
-  pub single_calls_refuse_alike : {n : ℕ} → written mode recording ds fs ≡ refused n
+  pub single_calls_refuse_alike : {n : Refusal} → written mode recording ds fs ≡ Err n
       → length (blocks_of (kept_in mode recording) (length ds / 128) 0 ds fs).skips ≤ length skips
       → length (blocks_of (kept_in mode recording) (length ds / 128) 0 ds fs).postings ≤ length postings
-      → take_all_docs s ds fs skips postings ≡ refused n
+      → take_all_docs s ds fs skips postings ≡ Err n
   single_calls_refuse_alike e a b =
       let some = accepted-le option 0 ds fs in
       let fewer = blocks_fewer option (accepted_count option 0 ds fs / 128) (length ds / 128) 0 ds fs (omega arith) (omega arith) in
@@ -248,13 +249,13 @@ module _ {mode : ℕ} {recording : Bool} {s : PostingsSerializer} (begun : Begun
   pub single_calls-no-room :
       (length skips < length (accepted_blocks mode recording ds fs).skips)
       ⊎ (length postings < length (accepted_blocks mode recording ds fs).postings)
-      → take_all_docs s ds fs skips postings ≡ refused no_room
+      → take_all_docs s ds fs skips postings ≡ Err NoRoom
   single_calls-no-room short = answers-room answers (room_missing short)
 
 -- Promise 2 of the order, "a written list", for single calls; and the writer never answers 15 where the room is there
 pub single_calls_write : {mode : ℕ} {recording : Bool} {s : PostingsSerializer} → Begun mode recording s → (ds fs skips postings : List ℕ) {bytes : List ℕ}
     → AllBelow (2 ^ 32) fs
-    → written mode recording ds fs ≡ ok bytes
+    → written mode recording ds fs ≡ Ok bytes
     → length (blocks_of (kept_in mode recording) (length ds / 128) 0 ds fs).skips ≤ length skips
     → length (blocks_of (kept_in mode recording) (length ds / 128) 0 ds fs).postings ≤ length postings
     → WritesList mode recording s ds fs skips postings bytes

@@ -1,7 +1,8 @@
 -- Laws of a block and its entry in their areas: a part that is lent from a place on and put back with bytes at its front is the
 -- whole with the bytes at that place; packed values that fit are put whole, and one part behind the other they are both put.
 -- Assumes nothing.
-use Rattle.std.specs.Prelude.{◌≡◌, ℕ, suc, ◌+◌, ◌-◌, ◌*◌, ◌^◌, ◌<◌, ◌≤◌, Bool, true, false, ◌&&◌ as and, leb, List, [], ◌∷◌, ◌++◌, length, get_or, take, drop}
+use Rattle.format.specs.declared.refusal.Refusal.TheVariants.{NoRoom}
+use Rattle.std.specs.Prelude.{◌≡◌, ℕ, suc, ◌+◌, ◌-◌, ◌*◌, ◌^◌, ◌<◌, ◌≤◌, Bool, true, false, ◌&&◌ as and, leb, List, [], ◌∷◌, ◌++◌, length, get_or, take, drop, Ok, Err}
 use mathlib.Core.Path.{refl, ap, ap₂, ◌∙◌}
 use mathlib.Core.Bool.{and-eq-true_iff}
 use mathlib.Core.List.{append-nil}
@@ -21,7 +22,6 @@ use Rattle.format.specs.Written.{only_if, doc_values, freq_values, info_of, entr
 use Rattle.format.specs.SkipEntry.{has_freq_of, entry_size_of, block_size_of, write_entry_of}
 use Rattle.bitpacking.specs.Packed.{room_for, Packed}
 use Rattle.skip.specs.Entry.{entry_put}
-use Rattle.serializer.specs.declared.block.Placed.TheVariants.{At, NoRoom}
 use Rattle.serializer.specs.declared.block.Places.{Places}
 use Rattle.serializer.specs.Pieces.{BlockFits, BlockPut, BlockWritten, block_fits}
 use Rattle.format.proofs.Area.{put_at-append}
@@ -39,11 +39,6 @@ last-at (d ∷ (e ∷ ds)) =
     let place : suc (suc (length ds)) - 1 ≡ suc (length ds) = omega arith in
     let before : suc (length ds) - 1 ≡ length ds = omega arith in
     rw (place, ← before) (last-at (e ∷ ds))
-
-pub last_none : (ds : List ℕ) → length ds ≡ 0 → last_of 0 ds ≡ 0
-unfolding last_of
-last_none [] e = refl
-last_none (d ∷ ds) e = absurd (omega arith)
 
 module _ (p : ℕ) (area : List ℕ) (h : p ≤ length area) where
   -- the part from place p on is all that lies behind p
@@ -122,7 +117,7 @@ module _ (option : IndexRecordOption) (least : ℕ) (ds fs : List ℕ) where
 
   -- where one of them doesn't fit, nothing is written
   pub block_refused : (at : Places) (skips postings : List ℕ) → block_fits option least ds fs at skips postings ≡ false
-      → BlockWritten option least ds fs at skips postings skips postings NoRoom
+      → BlockWritten option least ds fs at skips postings skips postings (Err NoRoom)
   unfolding choose
   block_refused at skips postings short = record { placed = rw short; skips_after = rw short; postings_after = rw short }
 
@@ -168,8 +163,8 @@ module _ (option : IndexRecordOption) (least : ℕ) (ds fs : List ℕ) where
 
       pub block_written : {skips' postings' : List ℕ} {r : Places} → block_fits option least ds fs at skips postings ≡ true
           → BlockPut (write_entry_of option info) (pack info.doc_width dv ++ pack info.freq_width fv) at skips postings skips' postings' r
-          → BlockWritten option least ds fs at skips postings skips' postings' (At r)
+          → BlockWritten option least ds fs at skips postings skips' postings' (Ok r)
       unfolding choose entry_of
       block_written room put =
           let own = rw (valued-block, v.info_is) at put in
-          record { placed = rw room (ap At own.placed); skips_after = rw room own.skips_after; postings_after = rw room own.postings_after }
+          record { placed = rw room (ap Ok own.placed); skips_after = rw room own.skips_after; postings_after = rw room own.postings_after }

@@ -1,16 +1,27 @@
 -- Question 16, asked in turn; and what a yes says of a state: few documents wait, their ids rise, and the areas reach no further than
 -- their slices.
 -- Assumes nothing.
-use Rattle.std.specs.Prelude.{◌≡◌, ℕ, ◌<◌, ◌≤◌, Bool, true, false, not, ◌&&◌ as and, ◌||◌ as or, leb}
+use Rattle.std.specs.Prelude.{◌≡◌, ℕ, ◌+◌, ◌<◌, ◌≤◌, Bool, true, false, not, ◌&&◌ as and, ◌||◌ as or, leb, ltb}
 use mathlib.Core.Path.{sym}
 use mathlib.Core.Bool.{and_assoc, and-eq-true_iff}
+use native.Mathlib.Omega.{arith}
 use borrow.Author.Tests.{leb-true, le-leb, lt-leb}
 use Rattle.format.specs.Accepted.{known_mode_of}
-use Rattle.format.specs.Basics.{TERMINATED}
+use Rattle.format.specs.Basics.{choose, TERMINATED}
 use Rattle.format.specs.SkipEntry.{has_freq_of}
 use Rattle.format.specs.Values.{rising, countable}
 use Rattle.serializer.specs.declared.PostingsSerializer.{PostingsSerializer}
 use Rattle.serializer.specs.Writer.{bounds_hold, option_of, first_least_of, waiting_docs, waiting_freqs}
+
+-- the least id that the first waiting document may have is 0, or one more than the last block's last id
+choose-most : (t : Bool) (n : ℕ) → choose t (λ _. n) (λ _. 0) ≤ n
+unfolding choose
+choose-most true n = omega arith
+choose-most false n = omega arith
+
+pub least-most : (s : PostingsSerializer) → first_least_of s ≤ s.last_doc + 1
+unfolding first_least_of
+least-most s = choose-most (ltb s.waiting s.taken) (s.last_doc + 1)
 
 -- ---- in turn: the first no answers it
 

@@ -9,10 +9,10 @@ use Rattle.serializer.proofs.close_term.Goals.{After-close_term_in-closed}
 -- what the call left, of the state that was passed
 left : (c : After-close_term_in-closed) → let a = c.args in
     ClosedFrom a.state a.announced a.skips.now a.postings.now a.output.now c.close_term_in-closed.new.output c.close_term_in-closed.result
-left c = closed_again c.args.state c.progress_of-was.ensures c.close_term_in-closed.ensures
+left c = closed_again c.args.state c.into.ensures c.close_term_in-closed.ensures
 
-pub returns-in_default : goal.returns-in_default
-returns-in_default c = closed_no (left (goal.at.returns-in_default c).After-close_term_in-closed) c.in_default.is
+pub returns-in-Err : goal.returns-in-Err
+returns-in-Err c = closed_no (left (goal.at.returns-in-Err c).After-close_term_in-closed) c.in-Err.is
 
-pub returns : goal.returns
-returns c = rw c.fresh.ensures (closed_yes (left (goal.at.returns c).After-close_term_in-closed) c.in-Bytes.is)
+pub returns-in-Ok : goal.returns-in-Ok
+returns-in-Ok c = rw c.fresh.ensures (closed_yes (left (goal.at.returns-in-Ok c).After-close_term_in-closed) c.in-Ok.is)

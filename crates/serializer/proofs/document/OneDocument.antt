@@ -2,7 +2,9 @@
 -- than its place in the list, so that one that is accepted can still be counted. A document is refused as the definitions refuse
 -- it; or it waits; or it fills a block, which goes into the areas where there is room.
 -- Assumes nothing.
-use Rattle.std.specs.Prelude.{◌≡◌, ℕ, suc, ◌+◌, ◌^◌, ◌<◌, ◌≤◌, true, not, ◌&&◌ as and, ◌||◌ as or, ltb, leb, List, [], ◌∷◌, ◌++◌, length, take, set}
+use Rattle.format.specs.declared.refusal.Refusal.{Refusal}
+use Rattle.format.specs.declared.refusal.Refusal.TheVariants.{NoRoom, StateBroken}
+use Rattle.std.specs.Prelude.{◌≡◌, ℕ, suc, ◌+◌, ◌^◌, ◌<◌, ◌≤◌, true, not, ◌&&◌ as and, ◌||◌ as or, ltb, leb, List, [], ◌∷◌, ◌++◌, length, take, set, Ok, Err}
 use mathlib.Core.List.{append-nil}
 use mathlib.Core.Path.{refl, sym, ◌∙◌}
 use native.Mathlib.Nat.{zero-lt-suc}
@@ -12,8 +14,7 @@ use borrow.Author.Tests.{lt-ltb, le-ltb, le-leb, leb-true, ltb-true}
 use lib.Dec.{leb-suc-suc}
 use lib.ListN.{length-append, length-set, drop_of_length-le}
 use lib.Seq.{append_snoc, set_split, take-suc-set}
-use Rattle.format.specs.Basics.{ok, refused, and_then, ask, choose, last_of, put_at, fits_at, TERMINATED}
-use Rattle.format.specs.Refusal.{no_room, state_broken}
+use Rattle.format.specs.Basics.{and_then, ask, choose, last_of, put_at, fits_at, TERMINATED}
 use Rattle.format.specs.Values.{rising, countable}
 use Rattle.format.specs.SkipEntry.{has_freq_of}
 use Rattle.format.specs.Accepted.{known_mode_of, take_doc}
@@ -47,10 +48,10 @@ pub record Held (s : PostingsSerializer) (skips postings : List ℕ) : Type 0 wh
 pub record Accepts (s : PostingsSerializer) (skips postings : List ℕ) (d f : ℕ) : Type 0 where
   pub held : Held s skips postings
   pub small : f < 2 ^ 32
-  pub accepted : take_doc (option_of s) (next_least s) d f ≡ ok (d + 1)
+  pub accepted : take_doc (option_of s) (next_least s) d f ≡ Ok (d + 1)
 
 pub accepts : {s : PostingsSerializer} {skips postings : List ℕ} → Held s skips postings → (d f : ℕ) {next : ℕ} → f < 2 ^ 32
-    → take_doc (option_of s) (next_least s) d f ≡ ok next → Accepts s skips postings d f
+    → take_doc (option_of s) (next_least s) d f ≡ Ok next → Accepts s skips postings d f
 accepts {s} h d f small e =
     record { held = h; small = small; accepted = rw (take_doc-ok (option_of s) (next_least s) d f e).next_is at e }
 
@@ -80,8 +81,8 @@ finished-is : (s : PostingsSerializer) (least : ℕ) (skips postings : List ℕ)
     → finished s least skips postings
     ≡ (let entry : List ℕ = entry_of (option_of s) least s.docs s.freqs in
     let block : List ℕ = block_of (option_of s) least s.docs s.freqs in
-    ask (and (fits_at s.skips_at entry skips) (fits_at s.postings_at block postings)) no_room λ _.
-    ok (record {
+    ask (and (fits_at s.skips_at entry skips) (fits_at s.postings_at block postings)) NoRoom λ _.
+    Ok (record {
       state = emptied s (record { skips = s.skips_at + length entry; postings = s.postings_at + length block });
       skips = put_at s.skips_at entry skips;
       postings = put_at s.postings_at block postings;
@@ -91,11 +92,11 @@ finished-is s least skips postings = refl
 
 taking-is : (s : PostingsSerializer) (d f : ℕ) (skips postings : List ℕ)
     → taking s d f skips postings
-    ≡ (ask (in_bounds_of s skips postings) state_broken λ _.
+    ≡ (ask (in_bounds_of s skips postings) StateBroken λ _.
     and_then (take_doc (option_of s) (next_least s) d f) λ _.
-    ask (ltb s.taken TERMINATED) state_broken λ _.
+    ask (ltb s.taken TERMINATED) StateBroken λ _.
     choose (ltb s.waiting 127)
-    (λ _. ok (record { state = stored s d f; skips = skips; postings = postings }))
+    (λ _. Ok (record { state = stored s d f; skips = skips; postings = postings }))
     (λ _. finished (stored s d f) (first_least_of s) skips postings))
 unfolding taking
 taking-is s d f skips postings = refl
@@ -191,7 +192,7 @@ module _ {s : PostingsSerializer} {skips postings : List ℕ} {d f : ℕ} (a : A
         mode_known = a.held.mode_known;
       }
 
-  pub call-waits : s.waiting < 127 → taking s d f skips postings ≡ ok (record { state = stored s d f; skips = skips; postings = postings })
+  pub call-waits : s.waiting < 127 → taking s d f skips postings ≡ Ok (record { state = stored s d f; skips = skips; postings = postings })
   unfolding ask and_then choose
   call-waits few = rw (taking-is, in_bounds a.held, a.accepted, lt-ltb _ _ taken-below, lt-ltb _ _ few)
 
@@ -257,8 +258,8 @@ module _ {s : PostingsSerializer} {skips postings : List ℕ} {d f : ℕ} (a : A
       → taking s d f skips postings
       ≡ (let entry : List ℕ = entry_of (option_of (stored s d f)) (first_least_of s) (stored s d f).docs (stored s d f).freqs in
       let block : List ℕ = block_of (option_of (stored s d f)) (first_least_of s) (stored s d f).docs (stored s d f).freqs in
-      ask (and (fits_at s.skips_at entry skips) (fits_at s.postings_at block postings)) no_room λ _.
-      ok (record {
+      ask (and (fits_at s.skips_at entry skips) (fits_at s.postings_at block postings)) NoRoom λ _.
+      Ok (record {
         state = filled s d f;
         skips = put_at s.skips_at entry skips;
         postings = put_at s.postings_at block postings;
@@ -269,7 +270,7 @@ module _ {s : PostingsSerializer} {skips postings : List ℕ} {d f : ℕ} (a : A
       (finished-is (stored s d f) (first_least_of s) skips postings)
 
 -- a document that is refused
-pub call-refused : {s : PostingsSerializer} {skips postings : List ℕ} → Held s skips postings → (d f : ℕ) {n : ℕ}
-    → take_doc (option_of s) (next_least s) d f ≡ refused n → taking s d f skips postings ≡ refused n
+pub call-refused : {s : PostingsSerializer} {skips postings : List ℕ} → Held s skips postings → (d f : ℕ) {n : Refusal}
+    → take_doc (option_of s) (next_least s) d f ≡ Err n → taking s d f skips postings ≡ Err n
 unfolding ask and_then
 call-refused h d f e = rw (taking-is, in_bounds h, e)

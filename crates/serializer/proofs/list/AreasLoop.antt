@@ -1,7 +1,8 @@
 -- The two areas while a list's full blocks are written: they hold the entries and the blocks so far at their fronts, and behind them
 -- what stood there. Where all blocks fit the next one does, and puts its bytes behind the others.
 -- Assumes nothing.
-use Rattle.std.specs.Prelude.{◌≡◌, ℕ, ◌+◌, ◌*◌, ◌/◌, ◌<◌, ◌≤◌, true, List, ◌++◌, length, get_or, take, drop}
+use Rattle.std.specs.Prelude.{◌≡◌, ℕ, ◌+◌, ◌*◌, ◌/◌, ◌<◌, ◌≤◌, true, List, ◌++◌, length, get_or, take, drop, Ok}
+use Rattle.std.specs.Result.{IsOk}
 use mathlib.Core.Path.{refl, sym}
 use native.Mathlib.Nat.{zero-add}
 use native.Mathlib.Numerals.{add-one}
@@ -9,11 +10,9 @@ use native.Mathlib.Omega.{arith}
 use borrow.Author.Tests.{le-leb}
 use lib.ListN.{length-append}
 use Rattle.format.specs.declared.IndexRecordOption.{IndexRecordOption}
-use Rattle.format.specs.Basics.{choose, fits_at, put_at}
+use Rattle.format.specs.Basics.{choose, fits_at, put_at, Outcome}
 use Rattle.format.specs.Written.{Parts, entry_of, block_of, blocks_of}
 use Rattle.format.proofs.Area.{length-put_at, put_at-nil, put_at-append}
-use Rattle.serializer.specs.declared.block.Placed.{Placed}
-use Rattle.serializer.specs.declared.block.Placed.TheVariants.{At, NoRoom}
 use Rattle.serializer.specs.declared.block.Places.{Places}
 use Rattle.serializer.specs.Pieces.{BlockWritten, block_fits}
 use Rattle.serializer.specs.Whole.{full_blocks_of, blocks_fit, BlocksPut}
@@ -65,7 +64,7 @@ module _ (option : IndexRecordOption) (ds fs skips₀ postings₀ : List ℕ) wh
     postings-kept = rw w.postings_are (length-put_at 0 _ postings₀)
 
     module _ (more : n < length ds / 128) (fits : blocks_fit option ds fs skips₀ postings₀ ≡ true)
-        {skips' postings' : List ℕ} {r : Placed}
+        {skips' postings' : List ℕ} {r : Outcome Places}
         (b : BlockWritten option least (take 128 (drop (128 * n) ds)) (take 128 (drop (128 * n) fs)) at skips postings skips' postings' r) where
       abbrev so_far : Parts
       so_far = blocks_of option n 0 ds fs
@@ -92,14 +91,14 @@ module _ (option : IndexRecordOption) (ds fs skips₀ postings₀ : List ℕ) wh
       fit = rw (w.skips_at_is, w.postings_at_is, w.skips_are, w.postings_are, behind-fits so_far.skips entry skips₀ room.0, behind-fits so_far.postings block postings₀ room.1)
 
       placed : r
-          ≡ At (record { skips = length (blocks_of option (n + 1) 0 ds fs).skips; postings = length (blocks_of option (n + 1) 0 ds fs).postings })
+          ≡ Ok (record { skips = length (blocks_of option (n + 1) 0 ds fs).skips; postings = length (blocks_of option (n + 1) 0 ds fs).postings })
       unfolding choose
       placed = rw (b.placed, fit, next, w.skips_at_is, w.postings_at_is) (simp length-append)
 
-      pub not-refused : r ≡ NoRoom → ⊥
-      not-refused e = let never : ◌≡◌ {A = ℕ} 0 1 = cc placed in omega arith
+      pub not-refused : IsOk r
+      not-refused = rw placed
 
-      pub written_next : {next : Places} → r ≡ At next → Written (n + 1) (get_or ds (128 * n + 127) 0 + 1) next skips' postings'
+      pub written_next : {next : Places} → r ≡ Ok next → Written (n + 1) (get_or ds (128 * n + 127) 0 + 1) next skips' postings'
       unfolding choose
       written_next e = record {
         least_is = sym (least-next n ds (omega arith));

@@ -1,19 +1,46 @@
 -- The full blocks of a list, taken off the front block by block, so that each law is one induction on their number. Blocks of m + n are
 -- those of the first m and those of the n behind them, which begin above the last id of the first m.
 -- Assumes nothing.
-use Rattle.std.specs.Prelude.{◌≡◌, ℕ, zero, suc, ◌+◌, ◌-◌, ◌*◌, ◌<◌, ◌≤◌, List, [], ◌∷◌, ◌++◌, length, take, drop}
+use Rattle.std.specs.Prelude.{◌≡◌, ℕ, zero, suc, ◌+◌, ◌-◌, ◌*◌, ◌/◌, ◌<◌, ◌≤◌, List, [], ◌∷◌, ◌++◌, length, get_or, take, drop}
 use mathlib.Core.List.{append_assoc, append-nil}
-use mathlib.Core.Path.{refl}
-use native.Mathlib.Nat.{not-suc-le-zero, zero-add, suc-add, add-sub_of_le}
+use mathlib.Core.Path.{refl, ap, ◌∙◌}
+use native.Mathlib.Nat.{not-suc-le-zero, mul-suc, zero-add, suc-add, add-sub_of_le}
 use native.Mathlib.Numerals.{add-one}
 use native.Mathlib.Omega.{arith}
 use lib.ListN.{length-append, length-take, length-drop}
-use lib.Seq.{take-add, drop-drop}
+use lib.Seq.{take-add, drop-drop, get_or-take, get_or-drop}
+use Rattle.std.specs.Simd.{first_chunks}
 use Rattle.format.specs.declared.IndexRecordOption.{IndexRecordOption}
 use Rattle.format.specs.Basics.{last_of}
 use Rattle.format.specs.Written.{entry_of, block_of, Parts, blocks_of}
 use Rattle.format.proofs.ImageParts.{blocks_of-zero, blocks_of-suc}
 use Rattle.serializer.specs.Writer.{least_after_of}
+
+-- ---- the blocks of a list as arrays
+
+pub block-at : (k n : ℕ) (ds : List ℕ) → n < k → get_or (first_chunks 128 k ds) n [] ≡ take 128 (drop (128 * n) ds)
+block-at zero n ds h = absurd (omega arith)
+block-at (suc k) zero ds h = refl
+block-at (suc k) (suc n) ds h = block-at k n (drop 128 ds) (omega arith) ∙ rw (drop-drop, mul-suc) (ap (λ (m : ℕ). take 128 (drop m ds)) (omega arith))
+
+-- what a loop over them has at turn n
+pub record BlockTurn (ds fs ids freqs : List ℕ) (n : ℕ) : Type 0 where
+  pub more : n < length ds / 128
+  pub docs_are : ids ≡ take 128 (drop (128 * n) ds)
+  pub freqs_are : freqs ≡ take 128 (drop (128 * n) fs)
+  pub last_is : get_or ids 127 0 ≡ get_or ds (128 * n + 127) 0
+
+pub block-turn : (ds fs : List ℕ) {blocks blocks' : List (List ℕ)} {ids freqs : List ℕ} {n : ℕ} → length ds ≡ length fs
+    → blocks ≡ first_chunks 128 (length ds / 128) ds → length blocks ≡ length ds / 128 → blocks' ≡ first_chunks 128 (length fs / 128) fs
+    → n < length blocks → ids ≡ get_or blocks n [] → freqs ≡ get_or blocks' n [] → BlockTurn ds fs ids freqs n
+block-turn ds fs {ids = ids} {n = n} same front long front' more ids_are freqs_are =
+    let docs : ids ≡ take 128 (drop (128 * n) ds) = ids_are ∙ rw front (block-at (length ds / 128) n ds (omega arith)) in
+    record {
+      more = omega arith;
+      docs_are = docs;
+      freqs_are = freqs_are ∙ rw front' (block-at (length fs / 128) n fs (omega arith));
+      last_is = rw docs (get_or-take 128 (drop (128 * n) ds) 127 0 (omega arith) ∙ get_or-drop (128 * n) ds 127 0);
+    }
 
 -- ---- the least id behind a list
 

@@ -1,24 +1,22 @@
 -- A whole list's outcome, question by question: where one is answered no the list is refused and nothing is written, and where all
 -- are answered yes the blocks in their areas and the tail make the image.
 -- Assumes nothing.
-use Rattle.std.specs.Prelude.{◌≡◌, ℕ, ◌≤◌, Bool, true, false, ◌&&◌ as and, eqb, leb, List, length, take}
+use Rattle.format.specs.declared.refusal.Refusal.{Refusal}
+use Rattle.format.specs.declared.refusal.Refusal.TheVariants.{UnknownMode, CountMismatch, NoRoom}
+use Rattle.std.specs.Prelude.{◌≡◌, ℕ, ◌≤◌, Bool, true, false, ◌&&◌ as and, eqb, leb, List, length, take, Ok, Err}
 use mathlib.Core.Bool.{and-eq-true_iff}
 use mathlib.Core.Path.{refl, sym, ap, ◌∙◌}
 use borrow.Author.Tests.{eq-eqb, ne_eqb, eqb-true}
 use Rattle.format.specs.declared.IndexRecordOption.{IndexRecordOption}
-use Rattle.format.specs.Basics.{Outcome, ok, refused, and_then, ask, choose, fits_at, put_at, or_before}
-use Rattle.format.specs.Refusal.{unknown_mode, count_mismatch, no_room}
+use Rattle.format.specs.Basics.{Outcome, and_then, ask, choose, fits_at, put_at, or_before}
 use Rattle.format.specs.Written.{image, image_from}
 use Rattle.format.specs.Accepted.{known_mode_of, kept_in, begin, take_docs, written}
 use Rattle.format.proofs.Area.{length-put_at, take-put_at-front}
 use Rattle.format.proofs.Outcome.{ok_same, ask-ok, and_then-ok}
-use Rattle.serializer.specs.declared.Accepted.TheVariants.{Refused as No}
 use Rattle.serializer.specs.declared.list.Sizes.{Sizes}
-use Rattle.serializer.specs.declared.Written.{Written}
-use Rattle.serializer.specs.declared.Written.TheVariants.{Bytes, Refused}
 use Rattle.serializer.specs.Calls.{accepted, answered, ListLeft, Listed}
 use Rattle.serializer.specs.Pieces.{ImagePut}
-use Rattle.serializer.specs.Whole.{Checked, ListSized, PartsThere, full_blocks_of, blocks_fit, list_fits_of, BlocksPut, ListPut}
+use Rattle.serializer.specs.Whole.{Checked, ListSized, full_blocks_of, blocks_fit, list_fits_of, BlocksPut, ListPut}
 use Rattle.serializer.specs.Writer.{listing, announcing}
 use Rattle.serializer.proofs.Laws.WholeList.{announcing-is}
 use Rattle.serializer.proofs.list.CheckLoop.{taken-rises}
@@ -26,54 +24,54 @@ use Rattle.serializer.proofs.Laws.BlockPlaces.{image-from, front_fits, blocks-ro
 
 -- ---- an outcome that hangs on one question
 
-module _ {A : Type 0} {o : Outcome A} (n : ℕ) (a : A) where
-  asked-answer : (bytes : A → ℕ) (t : Bool) → o ≡ (ask t n λ _. ok a)
-      → answered bytes o ≡ choose t (λ _. Bytes (bytes a)) (λ _. Refused n)
+module _ {A : Type 0} {o : Outcome A} (n : Refusal) (a : A) where
+  asked-answer : (bytes : A → ℕ) (t : Bool) → o ≡ (ask t n λ _. Ok a)
+      → answered bytes o ≡ choose t (λ _. Ok (bytes a)) (λ _. Err n)
   unfolding answered ask choose
   asked-answer bytes true e = rw e
   asked-answer bytes false e = rw e
 
-  asked-after : {B : Type 0} (f : A → B) (t : Bool) (b : B) → o ≡ (ask t n λ _. ok a) → or_before f o b ≡ choose t (λ _. f a) (λ _. b)
+  asked-after : {B : Type 0} (f : A → B) (t : Bool) (b : B) → o ≡ (ask t n λ _. Ok a) → or_before f o b ≡ choose t (λ _. f a) (λ _. b)
   unfolding or_before ask choose
   asked-after f true b e = rw e
   asked-after f false b e = rw e
 
 -- ---- the definitions, opened by one turn
 
-begin-is : (mode : ℕ) (recording : Bool) → begin mode recording ≡ ask (known_mode_of mode) unknown_mode λ _. ok (kept_in mode recording)
+begin-is : (mode : ℕ) (recording : Bool) → begin mode recording ≡ ask (known_mode_of mode) UnknownMode λ _. Ok (kept_in mode recording)
 unfolding begin
 begin-is mode recording = refl
 
 written_is : (mode : ℕ) (recording : Bool) (ds fs : List ℕ)
     → written mode recording ds fs
     ≡ (and_then (begin mode recording) λ option.
-    ask (eqb (length ds) (length fs)) count_mismatch λ _.
+    ask (eqb (length ds) (length fs)) CountMismatch λ _.
     and_then (take_docs option 0 ds fs) λ _.
-    ok (image option ds fs))
+    Ok (image option ds fs))
 unfolding written
 written_is mode recording ds fs = refl
 
 listing-is : (mode : ℕ) (recording : Bool) (ds fs skips postings output : List ℕ)
     → listing mode recording ds fs skips postings output
     ≡ (and_then (written mode recording ds fs) λ image.
-    ask (and (blocks_fit (kept_in mode recording) ds fs skips postings) (fits_at 0 image output)) no_room λ _.
-    ok image)
+    ask (and (blocks_fit (kept_in mode recording) ds fs skips postings) (fits_at 0 image output)) NoRoom λ _.
+    Ok image)
 unfolding listing blocks_fit full_blocks_of
 listing-is mode recording ds fs skips postings output = refl
 
 -- ---- the questions of the documents
 
-then_accepted : {A B : Type 0} (b : B) (o : Outcome A) → accepted o ≡ accepted (and_then o λ _. ok b)
+then_accepted : {A B : Type 0} (b : B) (o : Outcome A) → accepted o ≡ accepted (and_then o λ _. Ok b)
 unfolding accepted and_then
-then_accepted b (ok a) = refl
-then_accepted b (refused n) = refl
+then_accepted b (Ok a) = refl
+then_accepted b (Err n) = refl
 
 module _ (mode : ℕ) (recording : Bool) (ds fs : List ℕ) where
-  pub mode_unknown : known_mode_of mode ≡ false → accepted (written mode recording ds fs) ≡ No unknown_mode
+  pub mode_unknown : known_mode_of mode ≡ false → accepted (written mode recording ds fs) ≡ Err UnknownMode
   unfolding accepted and_then ask
   mode_unknown h = rw (written_is, begin-is, h)
 
-  pub lengths_differ : known_mode_of mode ≡ true → (length ds ≡ length fs → ⊥) → accepted (written mode recording ds fs) ≡ No count_mismatch
+  pub lengths_differ : known_mode_of mode ≡ true → (length ds ≡ length fs → ⊥) → accepted (written mode recording ds fs) ≡ Err CountMismatch
   unfolding accepted and_then ask
   lengths_differ known h = rw (written_is, begin-is, known, ne_eqb _ _ h)
 
@@ -83,7 +81,7 @@ module _ (mode : ℕ) (recording : Bool) (ds fs : List ℕ) where
   docs-asked known same = rw (written_is, begin-is, known, eq-eqb _ _ same) (then_accepted (image (kept_in mode recording) ds fs) _)
 
   -- a list that passed them
-  pub checked : {bytes : List ℕ} → written mode recording ds fs ≡ ok bytes → Checked ds fs × (bytes ≡ image (kept_in mode recording) ds fs)
+  pub checked : {bytes : List ℕ} → written mode recording ds fs ≡ Ok bytes → Checked ds fs × (bytes ≡ image (kept_in mode recording) ds fs)
   checked e =
       let p = and_then-ok _ _ (sym (written_is mode recording ds fs) ∙ e) in
       let option = ok_same (ask-ok _ _ _ (sym (begin-is mode recording) ∙ p.1)).1 in
@@ -94,47 +92,47 @@ module _ (mode : ℕ) (recording : Bool) (ds fs : List ℕ) where
 -- ---- where a question is answered no
 
 -- nothing is written
-pub left-refused : {o : Outcome (List ℕ)} {n : ℕ} (option : IndexRecordOption) (ds fs skips postings output : List ℕ) → o ≡ refused n
-    → ListLeft o option ds fs skips postings output skips postings output (Refused n)
+pub left-refused : {o : Outcome (List ℕ)} {n : Refusal} (option : IndexRecordOption) (ds fs skips postings output : List ℕ) → o ≡ Err n
+    → ListLeft o option ds fs skips postings output skips postings output (Err n)
 unfolding answered or_before
 left-refused option ds fs skips postings output e = record { answer = rw e; skips_after = rw e; postings_after = rw e; output_after = rw e }
 
 -- .. nor where the documents' questions are
 module _ (mode : ℕ) (recording : Bool) (ds fs skips postings output : List ℕ) where
-  pub listing-refused : {n : ℕ} → written mode recording ds fs ≡ refused n → listing mode recording ds fs skips postings output ≡ refused n
+  pub listing-refused : {n : Refusal} → written mode recording ds fs ≡ Err n → listing mode recording ds fs skips postings output ≡ Err n
   unfolding and_then
   listing-refused e = rw (listing-is, e)
 
   -- behind them only the room is asked for
-  pub listing-room : {bytes : List ℕ} → written mode recording ds fs ≡ ok bytes
+  pub listing-room : {bytes : List ℕ} → written mode recording ds fs ≡ Ok bytes
       → listing mode recording ds fs skips postings output
-      ≡ (ask (list_fits_of (kept_in mode recording) ds fs skips postings (length output)) no_room λ _. ok (image (kept_in mode recording) ds fs))
+      ≡ (ask (list_fits_of (kept_in mode recording) ds fs skips postings (length output)) NoRoom λ _. Ok (image (kept_in mode recording) ds fs))
   unfolding and_then
   listing-room e = rw (listing-is, e, (checked mode recording ds fs e).1, list_fits_of-is, front_fits (image (kept_in mode recording) ds fs) output)
 
   module _ (announced : ℕ) where
-    pub announcing-refused : {n : ℕ} → written mode recording ds fs ≡ refused n
-        → announcing mode recording announced ds fs skips postings output ≡ refused n
+    pub announcing-refused : {n : Refusal} → written mode recording ds fs ≡ Err n
+        → announcing mode recording announced ds fs skips postings output ≡ Err n
     unfolding and_then
     announcing-refused e = rw (announcing-is, e)
 
-    module _ {bytes : List ℕ} (e : written mode recording ds fs ≡ ok bytes) where
-      pub miscounted : (length ds ≡ announced → ⊥) → announcing mode recording announced ds fs skips postings output ≡ refused count_mismatch
+    module _ {bytes : List ℕ} (e : written mode recording ds fs ≡ Ok bytes) where
+      pub miscounted : (length ds ≡ announced → ⊥) → announcing mode recording announced ds fs skips postings output ≡ Err CountMismatch
       unfolding and_then ask
       miscounted h = rw (announcing-is, e, ne_eqb _ _ h)
 
       pub announcing-room : length ds ≡ announced
           → announcing mode recording announced ds fs skips postings output
-          ≡ (ask (list_fits_of (kept_in mode recording) ds fs skips postings (length output)) no_room λ _. ok (image (kept_in mode recording) ds fs))
+          ≡ (ask (list_fits_of (kept_in mode recording) ds fs skips postings (length output)) NoRoom λ _. Ok (image (kept_in mode recording) ds fs))
       unfolding and_then ask
       announcing-room h = rw (announcing-is, e, eq-eqb _ _ h) (listing-room e)
 
       module _ (h : length ds ≡ announced) {b : Bool} (fits : b ≡ list_fits_of (kept_in mode recording) ds fs skips postings (length output)) where
-        pub without_room : b ≡ false → announcing mode recording announced ds fs skips postings output ≡ refused no_room
+        pub without_room : b ≡ false → announcing mode recording announced ds fs skips postings output ≡ Err NoRoom
         unfolding ask
         without_room f = announcing-room h ∙ rw (sym fits ∙ f)
 
-        pub with_room : b ≡ true → announcing mode recording announced ds fs skips postings output ≡ ok (image (kept_in mode recording) ds fs)
+        pub with_room : b ≡ true → announcing mode recording announced ds fs skips postings output ≡ Ok (image (kept_in mode recording) ds fs)
         unfolding ask
         with_room t = announcing-room h ∙ rw (sym fits ∙ t)
 
@@ -142,7 +140,7 @@ module _ (mode : ℕ) (recording : Bool) (ds fs skips postings output : List ℕ
 
 module _ (option : IndexRecordOption) (ds fs skips postings output : List ℕ) where
   pub put_refused : list_fits_of option ds fs skips postings (length output) ≡ false
-      → ListPut option ds fs skips postings output skips postings output (Refused no_room)
+      → ListPut option ds fs skips postings output skips postings output (Err NoRoom)
   unfolding choose
   put_refused e = record { answer = rw e; skips_after = rw e; postings_after = rw e; output_after = rw e }
 
@@ -158,12 +156,8 @@ module _ (option : IndexRecordOption) (ds fs skips postings output : List ℕ) w
       room : (sizes.entries ≤ length skips) × (sizes.blocks ≤ length postings)
       room = rw (sized.entries_are, sized.blocks_are) (blocks-room option ds fs skips postings blocks-fit)
 
-      pub parts-there : PartsThere ds fs sizes skips' postings'
-      parts-there = record {
-        as_many = sized.checked.as_many;
-        entries_there = rw (blocks.skips_after, length-put_at) room.0;
-        blocks_there = rw (blocks.postings_after, length-put_at) room.1;
-      }
+      pub parts-there : (sizes.entries ≤ length skips') × (sizes.blocks ≤ length postings')
+      parts-there = (rw (blocks.skips_after, length-put_at) room.0, rw (blocks.postings_after, length-put_at) room.1)
 
       -- the image of what stands in the areas is the list's
       image_there : image_from option ds fs (take sizes.entries skips') (take sizes.blocks postings') ≡ image option ds fs
@@ -171,7 +165,7 @@ module _ (option : IndexRecordOption) (ds fs skips postings output : List ℕ) w
           let all = blocks-room option ds fs skips postings blocks-fit in
           rw (blocks.skips_after, blocks.postings_after, sized.entries_are, sized.blocks_are, take-put_at-front _ skips all.0, take-put_at-front _ postings all.1, ← image-from)
 
-      pub put_all : {output' : List ℕ} {r : Written}
+      pub put_all : {output' : List ℕ} {r : Outcome ℕ}
           → ImagePut (image_from option ds fs (take sizes.entries skips') (take sizes.blocks postings')) output output' r
           → ListPut option ds fs skips postings output skips' postings' output' r
       unfolding choose
@@ -183,9 +177,9 @@ module _ (option : IndexRecordOption) (ds fs skips postings output : List ℕ) w
       }
 
 -- a list that passed questions 11 to 14 is listed as it is put
-pub listed_put : (mode : ℕ) (recording : Bool) (ds fs skips postings output : List ℕ) {skips' postings' output' : List ℕ} {r : Written}
+pub listed_put : (mode : ℕ) (recording : Bool) (ds fs skips postings output : List ℕ) {skips' postings' output' : List ℕ} {r : Outcome ℕ}
     → listing mode recording ds fs skips postings output
-    ≡ (ask (list_fits_of (kept_in mode recording) ds fs skips postings (length output)) no_room λ _. ok (image (kept_in mode recording) ds fs))
+    ≡ (ask (list_fits_of (kept_in mode recording) ds fs skips postings (length output)) NoRoom λ _. Ok (image (kept_in mode recording) ds fs))
     → ListPut (kept_in mode recording) ds fs skips postings output skips' postings' output' r
     → Listed mode recording ds fs skips postings output skips' postings' output' r
 unfolding full_blocks_of

@@ -8,12 +8,12 @@ use Rattle.serializer.proofs.write_doc.Goals.{After-write_doc_in}
 -- what the call left, of the state that was passed
 left : (c : After-write_doc_in) → let a = c.args in let new = c.write_doc_in.new in
     TookIn a.state a.doc a.freq a.skips.now a.postings.now new.docs new.freqs new.skips new.postings c.write_doc_in.result
-left c = took_whole c.args.state c.progress_of-was.ensures c.args.doc c.args.freq c.write_doc_in.ensures
+left c = took_whole c.args.state c.into.ensures c.args.doc c.args.freq c.write_doc_in.ensures
 
-pub returns-in-At : goal.returns-in-At
-returns-in-At c =
-    let call = (goal.at.returns-in-At c).After-write_doc_in in
-    rw c.state_of.ensures (settled_at (left call) c.args.state c.in-At.is)
+pub returns-in-Ok : goal.returns-in-Ok
+returns-in-Ok c =
+    let call = (goal.at.returns-in-Ok c).After-write_doc_in in
+    rw c.with_arrays.ensures (settled_at (left call) c.args.state c.in-Ok.is)
 
-pub returns-in-Refused : goal.returns-in-Refused
-returns-in-Refused c = settled_no (left (goal.at.returns-in-Refused c).After-write_doc_in) c.args.state c.in-Refused.is
+pub returns-in-Err : goal.returns-in-Err
+returns-in-Err c = settled_no (left (goal.at.returns-in-Err c).After-write_doc_in) c.args.state c.in-Err.is

@@ -32,22 +32,22 @@ returns-then-progress-announced c =
     closed_mismatch (state asked) a.announced a.skips.now a.postings.now a.output.now (holds asked c.if-not-in_bounds.false)
     c.if-progress-announced.true
 
-pub put_term-put-requires : goal.put_term-put-requires
-put_term-put-requires c = holds (goal.at.put_term-put-requires c).After-in_bounds c.if-not-in_bounds.false
+pub put_term-answer-requires : goal.put_term-answer-requires
+put_term-answer-requires c = holds (goal.at.put_term-answer-requires c).After-in_bounds c.if-not-in_bounds.false
 
-pub returns-in_default : goal.returns-in_default
+pub returns-in-Err : goal.returns-in-Err
 unfolding state_of progress_of_of
-returns-in_default c =
+returns-in-Err c =
     let a = c.args in
-    let asked = (goal.at.returns-in_default c).After-in_bounds in
+    let asked = (goal.at.returns-in-Err c).After-in_bounds in
     closed_refused (state asked) a.announced a.skips.now a.postings.now a.output.now (holds asked c.if-not-in_bounds.false)
-    c.if-progress-announced.false c.put_term-put.ensures c.in_default.is
+    c.if-progress-announced.false c.put_term-answer.ensures c.in-Err.is
 
-pub returns : goal.returns
+pub returns-in-Ok : goal.returns-in-Ok
 unfolding state_of progress_of_of
-returns c =
+returns-in-Ok c =
     let a = c.args in
-    let asked = (goal.at.returns c).After-in_bounds in
-    rw c.fresh_progress.ensures
+    let asked = (goal.at.returns-in-Ok c).After-in_bounds in
+    rw c.fresh.ensures
     (closed_done (state asked) a.announced a.skips.now a.postings.now a.output.now (holds asked c.if-not-in_bounds.false)
-    c.if-progress-announced.false c.put_term-put.ensures c.in-Bytes.is)
+    c.if-progress-announced.false c.put_term-answer.ensures c.in-Ok.is)

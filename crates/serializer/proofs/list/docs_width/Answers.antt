@@ -7,4 +7,4 @@ use Rattle.serializer.proofs.list.docs_width.Goals as goal
 
 pub returns : goal.returns
 unfolding doc_values
-returns c = c.num_bits.ensures ∙ ap width (c.reduce_docs.ensures ∙ ap (doc_values _) c.copy_block-block.ensures)
+returns c = c.num_bits.ensures ∙ ap width c.reduce_docs.ensures

@@ -1,9 +1,0 @@
--- `serializer::list::entries_size` meets its contract: a slice holds so few ids that the entries' bytes fit.
--- Assumes nothing.
-use Rattle.std.proofs.Common.{◌/◌, length, arith}
-use Rattle.serializer.proofs.Laws.BlockPlaces.{entries_fit}
-use Rattle.serializer.proofs.list.entries_size.Goals as goal
-
-pub overflow_mul-result : goal.overflow_mul-result
-overflow_mul-result c =
-    rw c.entry_size.ensures (record { fits = entries_fit c.args.option (length c.args.ids.now / 128) (omega arith) })
