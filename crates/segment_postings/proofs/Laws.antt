@@ -1,6 +1,7 @@
 pub mod BelowMark
 pub mod CallsByValue
 pub mod CursorTurns
+pub mod Exits
 pub mod LandingParts
 pub mod LooksAt
 pub mod ReachedBounds

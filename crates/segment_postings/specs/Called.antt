@@ -2,32 +2,29 @@
 -- refused call leaves the cursor, so the next one gets the same again. A call on a lent cursor is the same call: it leaves in the
 -- caller's record what the call by value hands back.
 -- Assumes nothing.
-use Rattle.std.specs.Prelude.{◌≡◌, ℕ, ◌-◌, List, [], ◌∷◌, ◌++◌, length, replicate}
+use Rattle.std.specs.Prelude.{◌≡◌, ℕ, ◌-◌, List, [], ◌∷◌, ◌++◌, length, replicate, Ok, Err}
 use Rattle.format.specs.declared.Term.{Term}
+use Rattle.format.specs.declared.refusal.Refusal.{Refusal}
+use Rattle.format.specs.Refusal.{number_of}
 use Rattle.format.specs.Basics.{Outcome}
 use Rattle.format.specs.Model.{Answer as Shown, at, refused, Call, step, seek, State, after, entries_read}
 use Rattle.format.specs.Model as model
 use Rattle.segment_postings.specs.declared.Answer.{Answer}
-use Rattle.segment_postings.specs.declared.Answer.TheVariants.{At, Refused}
 use Rattle.segment_postings.specs.declared.Held.{Held}
 use Rattle.segment_postings.specs.declared.Moved.{Moved}
-use Rattle.segment_postings.specs.declared.Reached.{Reached}
-use Rattle.segment_postings.specs.declared.Reached.TheVariants as reached-as
 use Rattle.segment_postings.specs.declared.SegmentPostings.{SegmentPostings}
-use Rattle.segment_postings.specs.declared.Value.{Value}
-use Rattle.segment_postings.specs.declared.Value.TheVariants as value_as
 use Rattle.segment_postings.specs.Cursor.{position, answering, opened, stepping, advanced, seeking, sought}
 use Rattle.segment_postings.specs.Calls.{cursor_of}
 
 -- what the model says of an answer: document, frequency and blocks unpacked
-unfoldable pub shown : Answer → Shown
-shown (At doc freq unpacked entries) = at doc freq unpacked
-shown (Refused n) = refused n
+unfoldable pub shown : Outcome Answer → Shown
+shown (Ok a) = at a.doc a.freq a.unpacked
+shown (Err n) = refused n
 
 -- .. and the answer that says the same, with the entries read
-unfoldable pub with_entries : Shown → ℕ → Answer
-with_entries (at doc freq unpacked) entries = At doc freq unpacked entries
-with_entries (refused n) entries = Refused n
+unfoldable pub with_entries : Shown → ℕ → Outcome Answer
+with_entries (at doc freq unpacked) entries = Ok (record { doc = doc; freq = freq; unpacked = unpacked; entries = entries })
+with_entries (refused n) entries = Err n
 
 -- where a call comes to, as the contracts of `advance_in` and `seek_in` say it
 unfoldable pub reaching : SegmentPostings → List ℕ → Term → Call → Outcome SegmentPostings
@@ -42,13 +39,13 @@ called c bs t step = advanced c bs t
 called c bs t (seek target) = sought c bs t target
 
 -- each call gets the cursor as the last one left it
-unfoldable pub calls_from : List ℕ → Term → SegmentPostings → List Call → List Answer
+unfoldable pub calls_from : List ℕ → Term → SegmentPostings → List Call → List (Outcome Answer)
 unfolding called
 calls_from bs t c [] = []
 calls_from bs t c (call ∷ cs) = let m : Moved = called c bs t call in m.answer ∷ calls_from bs t m.cursor cs
 
 -- what opening and then the calls answer
-unfoldable pub calls : List ℕ → Term → List Call → List Answer
+unfoldable pub calls : List ℕ → Term → List Call → List (Outcome Answer)
 unfolding opened calls_from
 calls bs t cs = let m : Moved = opened bs t in m.answer ∷ calls_from bs t m.cursor cs
 
@@ -69,16 +66,16 @@ entries_place = 4
 
 -- the number and the values of each case of an answer, in order: 0, document, frequency, blocks unpacked, entries read; or a refusal's
 -- number and zeros
-unfoldable pub numbers : Answer → List ℕ
-numbers (At doc freq unpacked entries) = 0 ∷ doc ∷ freq ∷ unpacked ∷ entries ∷ []
-numbers (Refused n) = n ∷ replicate (answer_length - 1) 0
+unfoldable pub numbers : Outcome Answer → List ℕ
+numbers (Ok a) = 0 ∷ a.doc ∷ a.freq ∷ a.unpacked ∷ a.entries ∷ []
+numbers (Err r) = number_of r ∷ replicate (answer_length - 1) 0
 
 -- the same of a number that was asked for: 0 and the number, or a refusal's number and 0
-unfoldable pub value_numbers : Value → List ℕ
-value_numbers (value_as.Is n) = 0 ∷ n ∷ []
-value_numbers (value_as.Refused k) = k ∷ 0 ∷ []
+unfoldable pub value_numbers : Outcome ℕ → List ℕ
+value_numbers (Ok n) = 0 ∷ n ∷ []
+value_numbers (Err r) = number_of r ∷ 0 ∷ []
 
-unfoldable pub all_numbers : List Answer → List ℕ
+unfoldable pub all_numbers : List (Outcome Answer) → List ℕ
 unfolding numbers
 all_numbers [] = []
 all_numbers (a ∷ rest) = numbers a ++ all_numbers rest
@@ -110,8 +107,8 @@ pub record Counts (t : Term) (c : SegmentPostings) (m : State) : Type 0 where
   pub entries_are : c.held.entries ≡ entries_read t.count m.position
 
 -- a call on lent arrays beside the call by value on the cursor `was`, which gives m
-pub record SameCall (t : Term) (was : SegmentPostings) (m : Moved) (docs freqs docs' freqs' : List ℕ) (r : Reached) : Type 0 where
-  pub came : {held : Held} → r ≡ reached-as.At held
+pub record SameCall (t : Term) (was : SegmentPostings) (m : Moved) (docs freqs docs' freqs' : List ℕ) (r : Outcome Held) : Type 0 where
+  pub came : {held : Held} → r ≡ Ok held
       → m ≡ record { answer = answering t (cursor_of held docs' freqs'); cursor = cursor_of held docs' freqs' }
-  pub stayed : {n : ℕ} → r ≡ reached-as.Refused n
-      → (m ≡ record { answer = Refused n; cursor = was }) × (docs' ≡ docs) × (freqs' ≡ freqs)
+  pub stayed : {why : Refusal} → r ≡ Err why
+      → (m ≡ record { answer = Err why; cursor = was }) × (docs' ≡ docs) × (freqs' ≡ freqs)

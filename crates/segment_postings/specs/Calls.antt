@@ -1,37 +1,33 @@
 -- How the contracts of the public calls say an outcome: the parts of an image, a cursor in parts, what is lent.
 -- Assumes nothing.
-use Rattle.std.specs.Prelude.{◌≡◌, ℕ, ◌+◌, ◌-◌, ◌/◌, List, [], length, take, drop, ◌==◌, nat_le}
-use Rattle.format.specs.declared.VInt.{VInt}
-use Rattle.format.specs.declared.VInt.TheVariants.{Number, Malformed}
-use Rattle.format.specs.Basics.{Outcome, ok, refused, choose, or_before}
+use Rattle.std.specs.Prelude.{◌≡◌, ℕ, ◌+◌, ◌-◌, ◌/◌, List, [], length, take, drop, ◌==◌, nat_le, Ok, Err, Option, None, Some}
+use Rattle.format.specs.Basics.{Outcome, ask, choose, or_before}
+use Rattle.format.specs.declared.refusal.Refusal.TheVariants.{SkipLengthBroken}
 use Rattle.format.specs.Vint.{skip_length}
 use Rattle.segment_postings.specs.declared.Answer.{Answer}
 use Rattle.segment_postings.specs.declared.Moved.{Moved}
 use Rattle.segment_postings.specs.declared.SegmentPostings.{SegmentPostings}
 use Rattle.segment_postings.specs.declared.Held.{Held}
 use Rattle.segment_postings.specs.declared.layout.Split.{Split}
-use Rattle.segment_postings.specs.declared.layout.Split.TheVariants as split-as
-use Rattle.segment_postings.specs.declared.Reached.{Reached}
-use Rattle.segment_postings.specs.declared.Reached.TheVariants as reached-as
-use Rattle.segment_postings.specs.declared.Value.{Value}
-use Rattle.segment_postings.specs.declared.Value.TheVariants as value_as
 
 -- ---- the split: the skip bytes and the posting bytes as parts of the image; question 3 alone is asked
 
 -- where the skip bytes and the posting bytes begin, both at 0 where there is no full block; or that the answer is no
-unfoldable pub split_behind : List ℕ → VInt → Split
-unfolding choose
-split_behind bs Malformed = split-as.Broken
-split_behind bs (Number size used) = choose (nat_le size (length bs - used)) (λ _. split-as.At used (used + size)) (λ _. split-as.Broken)
+unfoldable pub split_behind : List ℕ → Option (ℕ × ℕ) → Outcome Split
+unfolding ask
+split_behind bs None = Err SkipLengthBroken
+split_behind bs (Some (size, used)) =
+    ask (nat_le size (length bs - used)) SkipLengthBroken λ _. Ok (record { skips = used; postings = used + size })
 
-unfoldable pub split_of : ℕ → List ℕ → Split
+unfoldable pub split_of : ℕ → List ℕ → Outcome Split
 unfolding choose split_behind skip_length
-split_of count bs = choose (count / 128 == 0) (λ _. split-as.At 0 0) (λ _. split_behind bs (skip_length bs))
+split_of count bs =
+    choose (count / 128 == 0) (λ _. Ok (record { skips = 0; postings = 0 })) (λ _. split_behind bs (skip_length bs))
 
 -- a part by those places; where the answer is no both are empty
-unfoldable pub part_of : (ℕ → ℕ → List ℕ) → Split → List ℕ
-part_of part (split-as.At skips postings) = part skips postings
-part_of part split-as.Broken = []
+unfoldable pub part_of : (ℕ → ℕ → List ℕ) → Outcome Split → List ℕ
+part_of part (Ok s) = part s.skips s.postings
+part_of part (Err r) = []
 
 abbrev pub skips_at : List ℕ → ℕ → ℕ → List ℕ
 skips_at bs skips postings = take (postings - skips) (drop skips bs)
@@ -49,13 +45,8 @@ posting_part count bs = part_of (postings_at bs) (split_of count bs)
 
 -- ---- outcomes
 
--- a number
-unfoldable pub valued : Outcome ℕ → Value
-valued (ok n) = value_as.Is n
-valued (refused n) = value_as.Refused n
-
 -- a call on a lent cursor answers as m does, and leaves its cursor
-abbrev pub Leaves : Moved → Answer → SegmentPostings → Type 0
+abbrev pub Leaves : Moved → Outcome Answer → SegmentPostings → Type 0
 Leaves m answer after = (answer ≡ m.answer) × (after ≡ m.cursor)
 
 -- ---- the cursor in parts
@@ -63,12 +54,12 @@ Leaves m answer after = (answer ≡ m.answer) × (after ≡ m.cursor)
 abbrev pub cursor_of : Held → List ℕ → List ℕ → SegmentPostings
 cursor_of held docs freqs = record { docs = docs; held = held; freqs = freqs }
 
-unfoldable pub reached : Outcome SegmentPostings → Reached
-reached (ok c) = reached-as.At c.held
-reached (refused n) = reached-as.Refused n
+unfoldable pub reached : Outcome SegmentPostings → Outcome Held
+reached (Ok c) = Ok c.held
+reached (Err n) = Err n
 
 -- a call on two lent arrays and the numbers: where it came to, and what the arrays hold; a refusal leaves them as they were
-pub record Reaches (o : Outcome SegmentPostings) (docs freqs docs' freqs' : List ℕ) (r : Reached) : Type 0 where
+pub record Reaches (o : Outcome SegmentPostings) (docs freqs docs' freqs' : List ℕ) (r : Outcome Held) : Type 0 where
   pub answer : r ≡ reached o
   pub docs_after : docs' ≡ or_before (λ c. c.docs) o docs
   pub freqs_after : freqs' ≡ or_before (λ c. c.freqs) o freqs

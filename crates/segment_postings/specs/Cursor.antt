@@ -1,15 +1,14 @@
 -- The calls on a cursor: what each answers and leaves, on every input.
 -- Assumes nothing.
-use Rattle.std.specs.Prelude.{ℕ, ◌+◌, ◌*◌, min, Bool, ◌&&◌ as and, ◌||◌ as or, List, length, replicate, ◌==◌, nat_le, nat_lt, slice_index}
+use Rattle.format.specs.declared.refusal.Refusal.TheVariants.{EntryBroken, TargetTooLarge, StateBroken}
+use Rattle.std.specs.Prelude.{ℕ, ◌+◌, ◌*◌, min, Bool, ◌&&◌ as and, ◌||◌ as or, List, length, replicate, ◌==◌, nat_le, nat_lt, slice_index, Ok, Err}
 use Rattle.format.specs.declared.Layout.{Layout}
 use Rattle.format.specs.declared.Term.{Term}
-use Rattle.format.specs.Basics.{Outcome, ok, refused, and_then, ask, choose, TERMINATED}
-use Rattle.format.specs.Refusal.{entry_broken, target_too_large, state_broken}
+use Rattle.format.specs.Basics.{Outcome, and_then, ask, choose, TERMINATED}
 use Rattle.format.specs.Layout.{layout, full_blocks_of}
 use Rattle.block_search.specs.Search.{search_block_of}
 use Rattle.segment_postings.specs.declared.SegmentPostings.{SegmentPostings}
 use Rattle.segment_postings.specs.declared.Answer.{Answer}
-use Rattle.segment_postings.specs.declared.Answer.TheVariants.{At, Refused}
 use Rattle.segment_postings.specs.declared.Held.{Held}
 use Rattle.segment_postings.specs.declared.Moved.{Moved}
 use Rattle.segment_postings.specs.declared.find.Start.{Start}
@@ -36,19 +35,19 @@ unfolding choose position
 answer_at_of t c =
     let h : Held = c.held in
     choose (position h == t.count)
-    (λ _. At TERMINATED 0 h.unpacked h.entries)
-    (λ _. At (slice_index c.docs h.place) (slice_index c.freqs h.place) h.unpacked h.entries)
+    (λ _. record { doc = TERMINATED; freq = 0; unpacked = h.unpacked; entries = h.entries })
+    (λ _. record { doc = slice_index c.docs h.place; freq = slice_index c.freqs h.place; unpacked = h.unpacked; entries = h.entries })
 
 -- .. as a call of its own answers it, of any numbers: 16 for a place that no block has
-unfoldable pub answering : Term → SegmentPostings → Answer
-unfolding choose answer_at_of
-answering t c = choose (nat_lt c.held.place 128) (λ _. answer_at_of t c) (λ _. Refused state_broken)
+unfoldable pub answering : Term → SegmentPostings → Outcome Answer
+unfolding ask answer_at_of
+answering t c = ask (nat_lt c.held.place 128) StateBroken λ _. Ok (answer_at_of t c)
 
 -- an outcome with its answer; a refused call leaves the cursor as it was
 unfoldable pub moved : Term → SegmentPostings → Outcome SegmentPostings → Moved
 unfolding answer_at_of
-moved t before (ok c) = record { answer = answer_at_of t c; cursor = c }
-moved t before (refused n) = record { answer = Refused n; cursor = before }
+moved t before (Ok c) = record { answer = Ok (answer_at_of t c); cursor = c }
+moved t before (Err n) = record { answer = Err n; cursor = before }
 
 -- an opened block starts as 128 places holding TERMINATED, with frequency 1; a refused opening leaves it so, at none of the places: every
 -- call on it is refused (16)
@@ -108,16 +107,16 @@ unfoldable pub leaving : Held → List ℕ → Term → ℕ → Outcome SegmentP
 unfolding and_then ask layout starts_inside_of landing least_after_of
 leaving h bs t target =
     and_then (layout t bs) λ l.
-    ask (starts_inside_of t l (h.block + 1) h.next) entry_broken λ _.
+    ask (starts_inside_of t l (h.block + 1) h.next) EntryBroken λ _.
     landing t bs l target (start_behind_of h)
 
 -- a step: 16; at the end nothing; else one place on, in the held block or the next
 unfoldable pub stepping : SegmentPostings → List ℕ → Term → Outcome SegmentPostings
 unfolding ask choose in_bounds_of position at_place leaving
 stepping c bs t =
-    ask (in_bounds_of t (length bs) c.held) state_broken λ _.
-    choose (position c.held == t.count) (λ _. ok c) λ _.
-    choose (nat_lt (c.held.place + 1) 128) (λ _. ok (at_place c (c.held.place + 1))) λ _.
+    ask (in_bounds_of t (length bs) c.held) StateBroken λ _.
+    choose (position c.held == t.count) (λ _. Ok c) λ _.
+    choose (nat_lt (c.held.place + 1) 128) (λ _. Ok (at_place c (c.held.place + 1))) λ _.
     leaving c.held bs t 0
 
 unfoldable pub advanced : SegmentPostings → List ℕ → Term → Moved
@@ -128,8 +127,8 @@ advanced c bs t = moved t c (stepping c bs t)
 unfoldable pub value_at : List ℕ → ℕ → Held → List ℕ → Term → Outcome ℕ
 unfolding ask choose in_bounds_of position
 value_at values end h bs t =
-    ask (in_bounds_of t (length bs) h) state_broken λ _.
-    choose (position h == t.count) (λ _. ok end) (λ _. ok (slice_index values h.place))
+    ask (in_bounds_of t (length bs) h) StateBroken λ _.
+    choose (position h == t.count) (λ _. Ok end) (λ _. Ok (slice_index values h.place))
 
 -- the document at the position, at the end TERMINATED
 unfoldable pub doc_at : SegmentPostings → List ℕ → Term → Outcome ℕ
@@ -160,26 +159,26 @@ within c t target =
     (and (nat_lt p 128)
     (and (nat_le target (slice_index c.docs p))
     (nat_le (128 * c.held.block + p) t.count))))
-    state_broken
-    λ _. ok (at_place c p)
+    StateBroken
+    λ _. Ok (at_place c p)
 
 -- behind the held block: the block that the entries lead to. Held values that fit no image may give the tail, behind which there is no
 -- block, a last id below the target: 16
 unfoldable pub behind : SegmentPostings → List ℕ → Term → ℕ → Outcome SegmentPostings
 unfolding ask and_then full_blocks_of leaving at_place place_of
 behind c bs t target =
-    ask (nat_lt c.held.block (full_blocks_of t)) state_broken λ _.
-    and_then (leaving c.held bs t target) λ landed. ok (at_place landed (place_of landed target))
+    ask (nat_lt c.held.block (full_blocks_of t)) StateBroken λ _.
+    and_then (leaving c.held bs t target) λ landed. Ok (at_place landed (place_of landed target))
 
 -- a seek: 16; at the end nothing, whatever the target; 10; a target not behind the present document stays; then the held block, if its
 -- last id is at least the target, else the blocks behind it
 unfoldable pub seeking : SegmentPostings → List ℕ → Term → ℕ → Outcome SegmentPostings
 unfolding ask choose in_bounds_of position within behind
 seeking c bs t target =
-    ask (in_bounds_of t (length bs) c.held) state_broken λ _.
-    choose (position c.held == t.count) (λ _. ok c) λ _.
-    ask (nat_le target TERMINATED) target_too_large λ _.
-    choose (nat_le target (slice_index c.docs c.held.place)) (λ _. ok c) λ _.
+    ask (in_bounds_of t (length bs) c.held) StateBroken λ _.
+    choose (position c.held == t.count) (λ _. Ok c) λ _.
+    ask (nat_le target TERMINATED) TargetTooLarge λ _.
+    choose (nat_le target (slice_index c.docs c.held.place)) (λ _. Ok c) λ _.
     choose (nat_le target c.held.last_doc) (λ _. within c t target) (λ _. behind c bs t target)
 
 unfoldable pub sought : SegmentPostings → List ℕ → Term → ℕ → Moved
@@ -196,5 +195,5 @@ unfoldable pub ranking : ℕ → ℕ → List ℕ → ℕ → Outcome ℕ
 unfolding ask and_then seeking_fresh position
 ranking mode count bs target =
     let t : Term = record { mode = mode; requested = 0; count = count } in
-    ask (nat_le target TERMINATED) target_too_large λ _.
-    and_then (seeking_fresh bs t target) λ c. ok (position c.held)
+    ask (nat_le target TERMINATED) TargetTooLarge λ _.
+    and_then (seeking_fresh bs t target) λ c. Ok (position c.held)

@@ -1,12 +1,12 @@
 -- The block that a walk or a seek lands on: found by the skip entries alone, then unpacked.
 -- Assumes nothing.
-use Rattle.std.specs.Prelude.{ℕ, zero, suc, ◌+◌, ◌-◌, ◌*◌, false, ◌&&◌ as and, List, ◌++◌, length, drop, replicate, ◌==◌, nat_le, nat_lt}
+use Rattle.format.specs.declared.refusal.Refusal.TheVariants.{EntryBroken}
+use Rattle.std.specs.Prelude.{ℕ, zero, suc, ◌+◌, ◌-◌, ◌*◌, false, ◌&&◌ as and, List, ◌++◌, length, drop, replicate, ◌==◌, nat_le, nat_lt, Ok}
 use Rattle.format.specs.declared.BlockInfo.{BlockInfo}
 use Rattle.format.specs.declared.IndexRecordOption.{IndexRecordOption}
 use Rattle.format.specs.declared.Layout.{Layout}
 use Rattle.format.specs.declared.Term.{Term}
-use Rattle.format.specs.Basics.{Outcome, ok, and_then, ask, choose, TERMINATED}
-use Rattle.format.specs.Refusal.{entry_broken}
+use Rattle.format.specs.Basics.{Outcome, and_then, ask, choose, TERMINATED}
 use Rattle.format.specs.SkipEntry.{has_freq_of, entry_size_of, read_entry, block_size_of, entry_fits_of}
 use Rattle.format.specs.Layout.{full_blocks_of, tail_length, skip_bytes_of}
 use Rattle.format.specs.Reading.{Block, full_block, tail_block}
@@ -37,12 +37,12 @@ start_after s e = record {
 unfoldable pub find_block_of : IndexRecordOption → List ℕ → List ℕ → ℕ → ℕ → Start → Outcome Found
 unfolding ask choose tail_info_of read_entry entry_size_of entry_fits_of block_size_of
 find_block_of option skips bs target zero s =
-    ok (record { block = s.block; at = s.at; least = s.least; info = tail_info_of; entries = s.entries })
+    Ok (record { block = s.block; at = s.at; least = s.least; info = tail_info_of; entries = s.entries })
 find_block_of option skips bs target (suc n) s =
     let e : BlockInfo = read_entry option (drop (entry_size_of option * s.block) skips) in
-    ask (entry_fits_of s.least (length bs - s.at) e) entry_broken λ _.
+    ask (entry_fits_of s.least (length bs - s.at) e) EntryBroken λ _.
     choose (nat_le target e.last_doc)
-    (λ _. ok (record { block = s.block; at = s.at; least = s.least; info = e; entries = s.entries + 1 }))
+    (λ _. Ok (record { block = s.block; at = s.at; least = s.least; info = e; entries = s.entries + 1 }))
     (λ _. find_block_of option skips bs target n (start_after s e))
 
 -- questions 6 to 9, of the block found
@@ -79,4 +79,4 @@ unfolding and_then find_block_of load_block_of holding full_blocks_of skip_bytes
 landing t bs l target s =
     and_then (find_block_of l.option (skip_bytes_of l bs) bs target (full_blocks_of t - s.block) s) λ f.
     and_then (load_block_of t l bs f) λ block.
-    ok (holding f s.unpacked block)
+    Ok (holding f s.unpacked block)

@@ -1,9 +1,9 @@
 -- The bytes that a call which lands on a block looks at: those before the posting bytes, and those of the block that the entries lead to.
 -- Assumes nothing.
-use Rattle.std.specs.Prelude.{◌≡◌, ℕ, ◌+◌, ◌-◌, List, length, take, drop, nat_lt}
+use Rattle.std.specs.Prelude.{◌≡◌, ℕ, ◌+◌, ◌-◌, List, length, take, drop, nat_lt, Ok}
 use Rattle.format.specs.declared.Layout.{Layout}
 use Rattle.format.specs.declared.Term.{Term}
-use Rattle.format.specs.Basics.{Outcome, ok, choose}
+use Rattle.format.specs.Basics.{Outcome, choose}
 use Rattle.format.specs.SkipEntry.{read_entry, block_size_of}
 use Rattle.format.specs.Layout.{full_blocks_of, skip_bytes_of}
 use Rattle.segment_postings.specs.declared.find.Found.{Found}
@@ -26,7 +26,7 @@ leads_to h bs t l target = find_block_of l.option (skip_bytes_of l bs) bs target
 
 -- two images that are the same in that block, if the entries lead to one
 abbrev pub SameThere : Held → Term → Layout → List ℕ → List ℕ → ℕ → Type 0
-SameThere h t l bs bs' target = (f : Found) → leads_to h bs t l target ≡ ok f → bytes_of t f bs ≡ bytes_of t f bs'
+SameThere h t l bs bs' target = (f : Found) → leads_to h bs t l target ≡ Ok f → bytes_of t f bs ≡ bytes_of t f bs'
 
 -- where the first full block ends, by entry 0 alone
 abbrev pub first_end : Layout → List ℕ → ℕ

@@ -1,50 +1,34 @@
 -- What the private functions below the calls want and leave.
 -- Assumes nothing.
-use Rattle.std.specs.Prelude.{◌≡◌, ℕ, ◌+◌, ◌≤◌, Bool, true, false, List, length, drop}
+use Rattle.std.specs.Prelude.{◌≡◌, ℕ, ◌+◌, ◌≤◌, Bool, List, length, drop, Ok, Err}
 use Rattle.format.specs.declared.Layout.{Layout}
 use Rattle.format.specs.declared.Term.{Term}
-use Rattle.format.specs.Basics.{Outcome, ok, refused, and_then, TERMINATED}
+use Rattle.format.specs.Basics.{Outcome, and_then, TERMINATED}
 use Rattle.format.specs.Model.{Call, step, seek}
 use Rattle.format.specs.SkipEntry.{block_size_of}
 use Rattle.format.specs.Layout.{layout, full_blocks_of}
 use Rattle.format.specs.Reading.{Block, kept_by}
-use Rattle.segment_postings.specs.declared.Answer.TheVariants.{Refused}
 use Rattle.segment_postings.specs.declared.Held.{Held}
-use Rattle.segment_postings.specs.declared.Reached.{Reached}
-use Rattle.segment_postings.specs.declared.Reached.TheVariants as reached-as
 use Rattle.segment_postings.specs.declared.SegmentPostings.{SegmentPostings}
 use Rattle.segment_postings.specs.declared.find.Found.{Found}
 use Rattle.segment_postings.specs.declared.find.Start.{Start}
-use Rattle.segment_postings.specs.declared.find.Search.{Search}
-use Rattle.segment_postings.specs.declared.find.Search.TheVariants as search-as
-use Rattle.segment_postings.specs.declared.layout.Laid.{Laid}
-use Rattle.segment_postings.specs.declared.layout.Laid.TheVariants as Laid-as
 use Rattle.segment_postings.specs.declared.load.Loaded.{Loaded}
-use Rattle.segment_postings.specs.declared.load.Loaded.TheVariants as loaded-as
+use Rattle.segment_postings.specs.declared.seeks.Call.{Call as Asked}
+use Rattle.segment_postings.specs.declared.seeks.Call.TheVariants.{Advance, Seek}
 use Rattle.segment_postings.specs.declared.seeks.Went.{Went}
 use Rattle.segment_postings.specs.Landing.{load_block_of, padded, holding}
 use Rattle.segment_postings.specs.Cursor.{answer_at_of}
 use Rattle.segment_postings.specs.Calls.{cursor_of, reached}
-
--- ---- the layout
-
-unfoldable pub laid : Outcome Layout → Laid
-laid (ok l) = Laid-as.At l
-laid (refused n) = Laid-as.Refused n
 
 -- ---- the block that is found
 
 -- what a search starts from: the image's own layout, so that the entry of every full block lies within the skip bytes; a block, at
 -- most the tail; where its bytes begin; and entries read, at most one for each block before it, so that no count wraps
 pub record FindsFrom (t : Term) (l : Layout) (bs : List ℕ) (s : Start) : Type 0 where
-  pub laid_out : layout t bs ≡ ok l
+  pub laid_out : layout t bs ≡ Ok l
   pub block_most_is : s.block ≤ full_blocks_of t
   pub inside : s.at ≤ length bs
   pub entries_most : s.entries ≤ s.block
-
-unfoldable pub searched : Outcome Found → Search
-searched (ok f) = search-as.To f
-searched (refused n) = search-as.Refused n
 
 -- ---- .. and unpacked
 
@@ -55,37 +39,37 @@ pub record FoundThere (t : Term) (bs : List ℕ) (f : Found) : Type 0 where
   pub freq_width : f.info.freq_width ≤ 32
   pub bytes : f.at + block_size_of f.info ≤ length bs
 
-unfoldable pub counted : ℕ → Bool → Outcome Block → Loaded
-counted unpacked kept (ok b) = loaded-as.Unpacked (unpacked + 1) kept
-counted unpacked kept (refused n) = loaded-as.Refused n
+unfoldable pub counted : ℕ → Bool → Outcome Block → Outcome Loaded
+counted unpacked kept (Ok b) = Ok (record { unpacked = unpacked + 1; kept = kept })
+counted unpacked kept (Err n) = Err n
 
 -- a block's documents and frequencies in two lent arrays of 128 places, and whether its image keeps frequencies; of a refusal's arrays
 -- nothing is told
-pub record BlockLoaded (t : Term) (l : Layout) (bs : List ℕ) (f : Found) (unpacked : ℕ) (docs freqs : List ℕ) (r : Loaded) : Type 0 where
+pub record BlockLoaded (t : Term) (l : Layout) (bs : List ℕ) (f : Found) (unpacked : ℕ) (docs freqs : List ℕ) (r : Outcome Loaded) : Type 0 where
   pub answer : r ≡ counted unpacked (kept_by t l (drop f.at bs)) (load_block_of t l bs f)
-  pub docs_are : (b : Block) → load_block_of t l bs f ≡ ok b → docs ≡ padded TERMINATED b.docs
-  pub freqs_are : (b : Block) → load_block_of t l bs f ≡ ok b → freqs ≡ padded 1 b.freqs
+  pub docs_are : (b : Block) → load_block_of t l bs f ≡ Ok b → docs ≡ padded TERMINATED b.docs
+  pub freqs_are : (b : Block) → load_block_of t l bs f ≡ Ok b → freqs ≡ padded 1 b.freqs
 
 -- the cursor at the first place of a block that was found
 unfoldable pub loaded : Term → Layout → List ℕ → Found → ℕ → Outcome SegmentPostings
 unfolding and_then load_block_of holding
-loaded t l bs f unpacked = and_then (load_block_of t l bs f) λ block. ok (holding f unpacked block)
+loaded t l bs f unpacked = and_then (load_block_of t l bs f) λ block. Ok (holding f unpacked block)
 
 -- a call on two arrays that its caller may lose: where it came to, and what they then hold
-pub record Lands (o : Outcome SegmentPostings) (docs freqs : List ℕ) (r : Reached) : Type 0 where
+pub record Lands (o : Outcome SegmentPostings) (docs freqs : List ℕ) (r : Outcome Held) : Type 0 where
   pub answer : r ≡ reached o
-  pub docs_are : (c : SegmentPostings) → o ≡ ok c → docs ≡ c.docs
-  pub freqs_are : (c : SegmentPostings) → o ≡ ok c → freqs ≡ c.freqs
+  pub docs_are : (c : SegmentPostings) → o ≡ Ok c → docs ≡ c.docs
+  pub freqs_are : (c : SegmentPostings) → o ≡ Ok c → freqs ≡ c.freqs
 
 -- ---- what the calls by value do on their cursor's arrays
 
 -- where a call on two arrays came to, with its answer; a refusal leaves the numbers as they were
-unfoldable pub with_answer_of : Term → (was : Held) → (docs freqs : List ℕ) → Reached → Went
+unfoldable pub with_answer_of : Term → (was : Held) → (docs freqs : List ℕ) → Outcome Held → Went
 unfolding answer_at_of
-with_answer_of t was docs freqs (reached-as.At held) = record { answer = answer_at_of t (cursor_of held docs freqs); held = held }
-with_answer_of t was docs freqs (reached-as.Refused n) = record { answer = Refused n; held = was }
+with_answer_of t was docs freqs (Ok held) = record { answer = Ok (answer_at_of t (cursor_of held docs freqs)); held = held }
+with_answer_of t was docs freqs (Err n) = record { answer = Err n; held = was }
 
 -- the call that `go` makes: a step, or a seek to the target
-unfoldable pub call_by : Bool → (target : ℕ) → Call
-call_by true target = step
-call_by false target = seek target
+unfoldable pub call_by : Asked → Call
+call_by Advance = step
+call_by (Seek target) = seek target

@@ -1,13 +1,13 @@
 -- A block's values as they are taken out of an image, and the questions that are asked of them in turn. Ids are taken as differences
 -- (compression/specs/Restored.antt), frequencies as they are, in places of 32 bits: one that is out of range is 0 there.
 -- Assumes nothing.
-use Rattle.std.specs.Prelude.{◌≡◌, ℕ, zero, suc, ◌+◌, ◌-◌, ◌^◌, ◌≤◌, Bool, true, false, not, ◌&&◌ as and, List, ◌++◌, length, take, drop, replicate, ◌==◌, nat_lt}
+use Rattle.format.specs.declared.refusal.Refusal.TheVariants.{DocsNotRising, FreqOutOfRange, NumberBroken, BytesLeft}
+use Rattle.std.specs.Prelude.{◌≡◌, ℕ, ◌+◌, ◌-◌, ◌^◌, ◌≤◌, Bool, true, false, not, ◌&&◌ as and, List, ◌++◌, length, take, drop, replicate, ◌==◌, nat_lt, Ok}
 use Rattle.format.specs.declared.BlockInfo.{BlockInfo}
 use Rattle.format.specs.declared.Layout.{Layout}
 use Rattle.format.specs.declared.Term.{Term}
-use Rattle.format.specs.Basics.{Outcome, ok, refused, and_then, ask, choose, last_of, TERMINATED, AllBelow}
+use Rattle.format.specs.Basics.{Outcome, and_then, ask, choose, last_of, TERMINATED, AllBelow}
 use Rattle.format.specs.Model.{member}
-use Rattle.format.specs.Refusal.{docs_not_rising, freq_out_of_range, number_broken, bytes_left}
 use Rattle.format.specs.Layout.{full_blocks_of}
 use Rattle.format.specs.Reading.{Block, kept_by}
 use Rattle.compression.specs.Restored.{ids_behind, differences_rise}
@@ -54,28 +54,23 @@ ends_on false last ds = true
 unfoldable pub asked_freqs : Taken → List ℕ → Outcome (List ℕ)
 asked_freqs k freqs =
     let fs : List ℕ = take k.n freqs in
-    ask k.freqs_there number_broken λ _.
-    ask (not (member 0 fs)) freq_out_of_range λ _.
-    ask k.ended bytes_left λ _. ok fs
+    ask k.freqs_there NumberBroken λ _.
+    ask (not (member 0 fs)) FreqOutOfRange λ _.
+    ask k.ended BytesLeft λ _. Ok fs
 
 -- questions 8 and 6 of the differences of ids
 unfoldable pub asked_docs : Taken → ℕ → List ℕ → Outcome (List ℕ)
 asked_docs k least docs =
     let ds : List ℕ = ids_behind least (take k.n docs) in
-    ask k.docs_there number_broken λ _.
-    ask (and (differences_rise least (take k.n docs)) (ends_on k.full k.last_doc ds)) docs_not_rising λ _. ok ds
+    ask k.docs_there NumberBroken λ _.
+    ask (and (differences_rise least (take k.n docs)) (ends_on k.full k.last_doc ds)) DocsNotRising λ _. Ok ds
 
 -- the block that they are the values of
 unfoldable pub asked : Taken → ℕ → List ℕ → List ℕ → Outcome Block
 asked k least docs freqs =
     and_then (asked_docs k least docs) λ ds.
     and_then (asked_freqs k freqs) λ fs.
-    ok (record { docs = ds; freqs = fs; last = k.last_doc })
-
--- what the number of a question says, where 0 says that every answer was yes
-unfoldable pub outcome : {A : Type 0} → ℕ → A → Outcome A
-outcome zero a = ok a
-outcome (suc n) a = refused (suc n)
+    Ok (record { docs = ds; freqs = fs; last = k.last_doc })
 
 -- what an array of 128 places holds: some values, behind them the filler
 pub record FilledUp (n filler : ℕ) (values : List ℕ) : Type 0 where
@@ -97,10 +92,10 @@ pub record ValuesTaken (t : Term) (l : Layout) (bs : List ℕ) (f : Found) (unpa
   pub freqs_nonzero : k.freqs_nonzero ≡ true → member 0 (take k.n freqs) ≡ false
   pub kept : k.docs_there ≡ true → k.kept ≡ kept_by t l (drop f.at bs)
 
--- what asking the questions of ids answers: a number; and leaves where that is 0: the ids in the place of their differences
-pub record DocsAsked (k : Taken) (least : ℕ) (docs docs' : List ℕ) (r : ℕ) : Type 0 where
-  pub answer : asked_docs k least docs ≡ outcome r (ids_behind least (take k.n docs))
-  pub left : r ≡ 0 → docs' ≡ ids_behind least (take k.n docs) ++ drop k.n docs
+-- what asking the questions of ids answers, and leaves where that is a yes: the ids in the place of their differences
+pub record DocsAsked (k : Taken) (least : ℕ) (docs docs' : List ℕ) (r : Outcome (Unit {0})) : Type 0 where
+  pub answer : asked_docs k least docs ≡ and_then r λ _. Ok (ids_behind least (take k.n docs))
+  pub left : r ≡ Ok tt → docs' ≡ ids_behind least (take k.n docs) ++ drop k.n docs
 
 -- a full block ends on its entry's last id, where `least` is the least id that may come behind it
 unfoldable pub ends_before : Bool → ℕ → ℕ → Bool

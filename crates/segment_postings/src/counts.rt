@@ -1,19 +1,17 @@
 // Total: the sum of the frequencies of the documents below a target.
 
-ghost use Rattle.std.specs.Prelude.{◌≡◌, ◌≤◌, length, take};
-ghost use Rattle.format.specs.Basics.{ok};
+ghost use Rattle.std.specs.Prelude.{Ok, ◌≡◌, ◌≤◌, length, take};
 ghost use Rattle.format.specs.Layout as layouts;
 ghost use Rattle.format.specs.Counts.{total_in, total};
 ghost use Rattle.format.specs.Reading.{reading};
-ghost use Rattle.segment_postings.specs.Calls.{valued};
 ghost use Rattle.segment_postings.specs.Passed.{FrontOf, docs_in_of};
 
-use crate::arrays::{first_start, land, start_behind};
-use crate::layout::{Laid, full_blocks, lay_out};
-use crate::{Reached, Value};
-use format::{COMPRESSION_BLOCK_SIZE, Layout, TARGET_TOO_LARGE, TERMINATED, Term};
+use crate::arrays::{first_start, land};
+use crate::layout::{full_blocks, lay_out};
+use format::{COMPRESSION_BLOCK_SIZE, Layout, Refusal, TERMINATED, Term};
 
-// The documents at the front of a block that lie below a target: the sum of their frequencies, and whether they are all of its.
+// The documents at the front of a block that lie below a target: the sum of their frequencies, and whether they are all of its. Both
+// are told in either case, so that it is no `Option`.
 #[derive(Clone, Copy)]
 struct Front {
     freqs: u64,
@@ -25,17 +23,15 @@ fn front_below(docs: &[u32], freqs: &[u32], target: u32) -> Front
     requires { (length docs.now ≤ 128) × (length docs.now ≤ length freqs.now) }
     ensures { FrontOf docs.now freqs.now target result }
 {
-    let mut i = 0;
     let mut passed = 0;
-    while i < docs.len() {
-        if target <= docs[i] {
+    for (&doc, &freq) in docs.iter().zip(freqs) {
+        if target <= doc {
             return Front {
                 freqs: passed,
                 whole: false,
             };
         }
-        passed += freqs[i] as u64;
-        i += 1;
+        passed += freq as u64;
     }
     Front {
         freqs: passed,
@@ -62,10 +58,11 @@ fn block_below(term: Term, block: usize, docs: &[u32], freqs: &[u32], target: u3
     front_below(&docs[..n], &freqs[..n], target)
 }
 
-// A walk block by block to the first document at or above the target.
-fn total_laid(image: &[u8], term: Term, layout: Layout, target: u32) -> Value
-    requires { layouts.layout term image.now ≡ ok layout }
-    ensures { result ≡ valued (total_in target (reading term image.now)) }
+// A walk block by block to the first document at or above the target. Where the next block begins only the landing on this one says, so no
+// range or iterator goes over them.
+fn total_laid(image: &[u8], term: Term, layout: Layout, target: u32) -> Result<u64, Refusal>
+    requires { layouts.layout term image.now ≡ Ok layout }
+    ensures { result ≡ total_in target (reading term image.now) }
 {
     let blocks = full_blocks(term.count);
     let mut docs = [0; 128];
@@ -73,37 +70,28 @@ fn total_laid(image: &[u8], term: Term, layout: Layout, target: u32) -> Value
     let mut from = first_start(layout);
     let mut passed = 0;
     loop {
-        match land(image, term, layout, 0, from, &mut docs, &mut freqs) {
-            Reached::At(held) => {
-                let front = block_below(term, from.block, &docs, &freqs, target);
-                passed += front.freqs;
-                if !front.whole {
-                    return Value::Is(passed);
-                }
-                if blocks <= from.block {
-                    return Value::Is(passed);
-                }
-                from = start_behind(held);
-            }
-            Reached::Refused(n) => return Value::Refused(n),
+        let held = land(image, term, layout, 0, from, &mut docs, &mut freqs)?;
+        let front = block_below(term, from.block, &docs, &freqs, target);
+        passed += front.freqs;
+        if !front.whole || blocks <= from.block {
+            return Ok(passed);
         }
+        from = held.start_behind();
     }
 }
 
 // The sum of the frequencies of the documents below the target, in a walk with frequencies requested.
-pub fn total(image: &[u8], mode: u8, count: u32, target: u32) -> Value
-    ensures { result ≡ valued (total mode count image.now target) }
+pub fn total(image: &[u8], mode: u8, count: u32, target: u32) -> Result<u64, Refusal>
+    ensures { result ≡ total mode count image.now target }
 {
     if TERMINATED < target {
-        return Value::Refused(TARGET_TOO_LARGE);
+        return Err(Refusal::TargetTooLarge);
     }
     let term = Term {
         mode,
         requested: 1,
         count,
     };
-    match lay_out(image, term) {
-        Laid::At(layout) => total_laid(image, term, layout, target),
-        Laid::Refused(n) => Value::Refused(n),
-    }
+    let layout = lay_out(image, term)?;
+    total_laid(image, term, layout, target)
 }

@@ -4,11 +4,11 @@ ghost use Rattle.std.specs.Prelude.{◌≡◌, ◌+◌, ◌-◌, ◌≤◌, leng
 ghost use Rattle.format.specs.SkipEntry.{entry_size_of, read_entry};
 ghost use Rattle.format.specs.Layout.{full_blocks_of, skip_bytes_of};
 ghost use Rattle.segment_postings.specs.Landing.{tail_info_of, find_block_of};
-ghost use Rattle.segment_postings.specs.Private.{searched, FindsFrom};
+ghost use Rattle.segment_postings.specs.Private.{FindsFrom};
 
 use crate::layout::full_blocks;
-use format::{BlockInfo, ENTRY_BROKEN, IndexRecordOption, Layout, TERMINATED, Term};
-use skip::{SkipEntry, block_size, entry_fits, entry_size, read_entry};
+use format::{BlockInfo, IndexRecordOption, Layout, Refusal, TERMINATED, Term};
+use skip::{block_size, entry_fits, entry_size, read_entry};
 
 // Where a search starts: a block, where its bytes begin, the least id that it may hold, and the entries read and the blocks unpacked by
 // then.
@@ -32,13 +32,6 @@ pub(crate) struct Found {
     pub entries: usize,
 }
 
-// The block that a search came to; or the number of the question that was answered no.
-#[derive(Clone, Copy)]
-pub(crate) enum Search {
-    To(Found),
-    Refused(u8),
-}
-
 // The tail has no entry: no bits, and TERMINATED for its last id.
 fn tail_info() -> BlockInfo
     ensures { result ≡ tail_info_of }
@@ -56,10 +49,7 @@ fn entry_at(option: IndexRecordOption, skips: &[u8], at: usize) -> BlockInfo
     requires { at + entry_size_of option ≤ length skips.now }
     ensures { result ≡ read_entry option (drop at skips.now) }
 {
-    match read_entry(option, skips, at) {
-        SkipEntry::Entry(info) => info,
-        SkipEntry::Missing => tail_info(),
-    }
+    read_entry(option, skips, at).unwrap()
 }
 
 // From a block on, the first whose last id is at least the target, or the tail. Entries are read one by one, and each is asked question
@@ -70,12 +60,11 @@ pub(crate) fn find_block(
     layout: Layout,
     target: u32,
     from: Start,
-) -> Search
+) -> Result<Found, Refusal>
     requires { FindsFrom term layout image.now from }
-    ensures { result ≡ searched (find_block_of layout.option (skip_bytes_of layout image.now) image.now target
-        (full_blocks_of term - from.block) from) }
+    ensures { result ≡ find_block_of layout.option (skip_bytes_of layout image.now) image.now target
+        (full_blocks_of term - from.block) from }
 {
-    let mut block = from.block;
     let mut at = from.at;
     let mut least = from.least;
     let mut entries = from.entries;
@@ -85,15 +74,15 @@ pub(crate) fn find_block(
     let skips = &image[start..end];
     let blocks = full_blocks(term.count);
     let size = entry_size(option);
-    let mut entry = size * block;
-    while block < blocks {
+    let mut entry = size * from.block;
+    for block in from.block..blocks {
         let info = entry_at(option, skips, entry);
         if !entry_fits(info, least, image.len() - at) {
-            return Search::Refused(ENTRY_BROKEN);
+            return Err(Refusal::EntryBroken);
         }
         entries += 1;
         if target <= info.last_doc {
-            return Search::To(Found {
+            return Ok(Found {
                 block,
                 at,
                 least,
@@ -101,13 +90,12 @@ pub(crate) fn find_block(
                 entries,
             });
         }
-        block += 1;
         at += block_size(info);
         least = info.last_doc + 1;
         entry += size;
     }
-    Search::To(Found {
-        block,
+    Ok(Found {
+        block: blocks,
         at,
         least,
         info: tail_info(),

@@ -1,5 +1,6 @@
 // Calls on a cursor that the caller lends and gets back in its own record. The work is that of the calls by value. The last two are by
-// value again and make theirs on a local cursor that they lend, for callers that hold no reference.
+// value again and make theirs on a local cursor that they lend, for callers that hold no reference. Steps and seeks are calls of their own, as
+// programs make them: two of each form in three lines, and no generic one.
 
 ghost use Rattle.std.specs.Prelude.{◌≡◌};
 ghost use Rattle.segment_postings.specs.Cursor.{advanced, sought};
@@ -8,10 +9,14 @@ ghost use Rattle.segment_postings.specs.Calls.{Leaves};
 use crate::seeks::seek;
 use crate::segment_postings::advance;
 use crate::{Answer, Moved, SegmentPostings};
-use format::Term;
+use format::{Refusal, Term};
 
 // Steps to the next document; a refusal leaves the caller's record as it was.
-pub fn advance_mut(cursor: &mut SegmentPostings, image: &[u8], term: Term) -> Answer
+pub fn advance_mut(
+    cursor: &mut SegmentPostings,
+    image: &[u8],
+    term: Term,
+) -> Result<Answer, Refusal>
     ensures { Leaves (advanced cursor.old image.now term) result cursor.new }
 {
     let m = advance(*cursor, image, term);
@@ -20,7 +25,12 @@ pub fn advance_mut(cursor: &mut SegmentPostings, image: &[u8], term: Term) -> An
 }
 
 // Seeks to the first document, not before the present one, that is at least the target.
-pub fn seek_mut(cursor: &mut SegmentPostings, image: &[u8], term: Term, target: u32) -> Answer
+pub fn seek_mut(
+    cursor: &mut SegmentPostings,
+    image: &[u8],
+    term: Term,
+    target: u32,
+) -> Result<Answer, Refusal>
     ensures { Leaves (sought cursor.old image.now term target) result cursor.new }
 {
     let m = seek(*cursor, image, term, target);

@@ -20,6 +20,7 @@ pub use crate::lending::{advance_by_lending, advance_mut, seek_by_lending, seek_
 pub use crate::seeks::{rank, seek, seek_in};
 pub use crate::segment_postings::{advance, doc, open, term_freq};
 pub use crate::whole::read;
+use format::Refusal;
 
 // A position in a list: the block that holds it, unpacked, and the place in that block. Places behind the last document of a list
 // hold TERMINATED and frequency 1. The image, its mode and its count are lent to each call and never kept.
@@ -45,36 +46,18 @@ pub struct Held {
     pub entries: usize,
 }
 
-// What a call answers: the document and the frequency at the position, blocks unpacked and entries read; or the number of the
-// question that was answered no.
+// What a call answers: the document and the frequency at the position, blocks unpacked and entries read.
 #[derive(Clone, Copy)]
-pub enum Answer {
-    At {
-        doc: u32,
-        freq: u32,
-        unpacked: usize,
-        entries: usize,
-    },
-    Refused(u8),
+pub struct Answer {
+    pub doc: u32,
+    pub freq: u32,
+    pub unpacked: usize,
+    pub entries: usize,
 }
 
-// An answer with the cursor after it.
+// A call's answer, with the cursor after it, which a refusal leaves as it was.
 #[derive(Clone, Copy)]
 pub struct Moved {
-    pub answer: Answer,
+    pub answer: Result<Answer, Refusal>,
     pub cursor: SegmentPostings,
-}
-
-// Where a call came to; or the number of the question that was answered no.
-#[derive(Clone, Copy)]
-pub enum Reached {
-    At(Held),
-    Refused(u8),
-}
-
-// A number that was asked for; or the number of the question that was answered no.
-#[derive(Clone, Copy)]
-pub enum Value {
-    Is(u64),
-    Refused(u8),
 }

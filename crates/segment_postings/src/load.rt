@@ -1,25 +1,26 @@
 // A block taken out of an image, and questions 6 to 9 of document 01 asked of it.
 
-ghost use Rattle.std.specs.Prelude.{◌≡◌, ◌+◌, ◌^◌, ◌<◌, true, false, length, take, drop, ◌==◌};
+ghost use Rattle.std.specs.Prelude.{Ok, ◌≡◌, ◌+◌, ◌^◌, ◌<◌, true, false, length, take, drop, ◌==◌};
+ghost use Rattle.format.specs.Basics.{and_then};
 ghost use Rattle.format.specs.Model.{member};
 ghost use Rattle.format.specs.Reading.{keeps_freqs_of};
 ghost use Rattle.segment_postings.specs.Private.{FoundThere, BlockLoaded};
-ghost use Rattle.segment_postings.specs.Taken.{ValuesTaken, DocsAsked, asked_freqs, outcome, full_taken_of, tail_taken_of};
+ghost use Rattle.segment_postings.specs.Taken.{ValuesTaken, DocsAsked, asked_freqs, full_taken_of, tail_taken_of};
 
 use crate::find::Found;
 use crate::layout::full_blocks;
 use bitpacking::unpack;
 use compression::compressed_block_size;
-use compression::values::{Restored, first_as_difference, has_zero, reduction, restore_docs};
+use compression::values::{first_as_difference, has_zero, reduction, restore_docs};
 use format::{
-    BYTES_LEFT, BlockInfo, COMPRESSION_BLOCK_SIZE, DOCS_NOT_RISING, FREQ_OUT_OF_RANGE,
-    IndexRecordOption, Layout, NUMBER_BROKEN, Next, TERMINATED, Term,
+    BlockInfo, COMPRESSION_BLOCK_SIZE, IndexRecordOption, Layout, Refusal, TERMINATED, Term,
 };
 use skip::has_freq;
 use vint::uncompress_unsorted;
 
 // What was taken of a block, beside its values: how many they are, whether its numbers were all there, what their form rules out, and
-// whether its bytes end where they should.
+// whether its bytes end where they should. All values are taken before the first is asked, by one function for both who ask, so each answer
+// that taking gives is kept as a flag until its question's turn comes.
 #[derive(Clone, Copy)]
 pub struct Taken {
     pub full: bool,
@@ -41,11 +42,11 @@ pub struct Taken {
     pub unpacked: usize,
 }
 
-// How many blocks are unpacked, with one more, and whether the image keeps frequencies; or the number of the question that was answered no.
+// How many blocks are unpacked, with one more, and whether the image keeps frequencies.
 #[derive(Clone, Copy)]
-pub(crate) enum Loaded {
-    Unpacked { unpacked: usize, kept: bool },
-    Refused(u8),
+pub(crate) struct Loaded {
+    pub unpacked: usize,
+    pub kept: bool,
 }
 
 // What was taken of a full block: its numbers are packed, so that none is missing.
@@ -66,27 +67,19 @@ fn full_taken(info: BlockInfo, freqs_nonzero: bool, kept: bool, unpacked: usize)
     }
 }
 
-// What was taken of a tail of n documents.
-fn tail_taken(
-    n: usize,
-    docs_there: bool,
-    freqs_there: bool,
-    freqs_nonzero: bool,
-    ended: bool,
-    kept: bool,
-    unpacked: usize,
-) -> Taken
-    ensures { result ≡ tail_taken_of n docs_there freqs_there freqs_nonzero ended kept unpacked }
+// What was taken of a tail of n documents to which every question but one is answered yes: that its form rules out a difference of 0.
+fn tail_taken(n: usize, kept: bool, unpacked: usize) -> Taken
+    ensures { result ≡ tail_taken_of n true true true true kept unpacked }
 {
     Taken {
         full: false,
         n,
         last_doc: TERMINATED,
-        docs_there,
+        docs_there: true,
         docs_nonzero: false,
-        freqs_there,
-        freqs_nonzero,
-        ended,
+        freqs_there: true,
+        freqs_nonzero: true,
+        ended: true,
         kept,
         unpacked,
     }
@@ -103,13 +96,7 @@ fn none_left(image: &[u8], at: usize) -> bool
 fn keeps_freqs(option: IndexRecordOption, alone: bool, n: usize, image: &[u8], at: usize) -> bool
     ensures { result ≡ keeps_freqs_of option alone n (drop at image.now) }
 {
-    if !has_freq(option) {
-        return false;
-    }
-    if alone && 0 < n {
-        return !none_left(image, at);
-    }
-    true
+    has_freq(option) && !(alone && 0 < n && none_left(image, at))
 }
 
 // Takes the values of a block out of an image, and counts it. No other function does either. Ids are left as differences, frequencies as
@@ -147,56 +134,69 @@ pub(crate) fn take_values(
     let n = term.count as usize % COMPRESSION_BLOCK_SIZE;
     let mut ids = [TERMINATED; 128];
     *freqs = [1; 128];
-    let Next::At(behind) = uncompress_unsorted(image, found.at, &mut ids[..n]) else {
-        return tail_taken(n, false, true, true, true, false, counted);
+    let Some(behind) = uncompress_unsorted(image, found.at, &mut ids[..n]) else {
+        return Taken {
+            docs_there: false,
+            ..tail_taken(n, false, counted)
+        };
     };
     first_as_difference(&mut ids[..n], found.least);
     *docs = ids;
     let kept = keeps_freqs(layout.option, blocks == 0, n, image, behind);
     if !kept || n == 0 {
-        return tail_taken(n, true, true, true, none_left(image, behind), kept, counted);
+        return Taken {
+            ended: none_left(image, behind),
+            ..tail_taken(n, kept, counted)
+        };
     }
     if term.requested == 0 {
-        return tail_taken(n, true, true, true, true, kept, counted);
+        return tail_taken(n, kept, counted);
     }
     let mut counts = [1; 128];
-    let Next::At(end) = uncompress_unsorted(image, behind, &mut counts[..n]) else {
-        return tail_taken(n, true, false, true, true, kept, counted);
+    let Some(end) = uncompress_unsorted(image, behind, &mut counts[..n]) else {
+        return Taken {
+            freqs_there: false,
+            ..tail_taken(n, kept, counted)
+        };
     };
     *freqs = counts;
-    tail_taken(n, true, true, false, none_left(image, end), kept, counted)
+    Taken {
+        freqs_nonzero: false,
+        ended: none_left(image, end),
+        ..tail_taken(n, kept, counted)
+    }
 }
 
-// Questions 8 and 6 of a block's ids, which then stand in the place of their differences: 0, or the number of the question that was
-// answered no.
-fn ask_docs(taken: Taken, least: u32, docs: &mut [u32; 128]) -> u8
+// Questions 8 and 6 of a block's ids, which then stand in the place of their differences.
+fn ask_docs(taken: Taken, least: u32, docs: &mut [u32; 128]) -> Result<(), Refusal>
     requires { (taken.docs_nonzero ≡ true → member 0 (take taken.n docs.old) ≡ false) }
     ensures { DocsAsked taken least docs.old docs.new result }
 {
     if !taken.docs_there {
-        return NUMBER_BROKEN;
+        return Err(Refusal::NumberBroken);
     }
-    let Restored::Rising(last) = restore_docs(docs, taken.n, taken.docs_nonzero, least) else {
-        return DOCS_NOT_RISING;
-    };
+    let last = restore_docs(docs, taken.n, taken.docs_nonzero, least)?;
     if taken.full && last != taken.last_doc {
-        return DOCS_NOT_RISING;
+        return Err(Refusal::DocsNotRising);
     }
-    0
+    Ok(())
 }
 
 // Questions 8, 7 and 9 of its frequencies.
-fn ask_freqs(taken: Taken, freqs: &[u32; 128]) -> u8
+fn ask_freqs(taken: Taken, freqs: &[u32; 128]) -> Result<(), Refusal>
     requires { (taken.freqs_nonzero ≡ true → member 0 (take taken.n freqs.now) ≡ false) }
-    ensures { asked_freqs taken freqs.now ≡ outcome result (take taken.n freqs.now) }
+    ensures { asked_freqs taken freqs.now ≡ and_then result λ _. Ok (take taken.n freqs.now) }
 {
     if !taken.freqs_there {
-        return NUMBER_BROKEN;
+        return Err(Refusal::NumberBroken);
     }
     if !taken.freqs_nonzero && has_zero(freqs, taken.n) {
-        return FREQ_OUT_OF_RANGE;
+        return Err(Refusal::FreqOutOfRange);
     }
-    if taken.ended { 0 } else { BYTES_LEFT }
+    if !taken.ended {
+        return Err(Refusal::BytesLeft);
+    }
+    Ok(())
 }
 
 // Unpacks the block that was found into two lent arrays, and asks questions 6 to 9. What a refusal leaves in the arrays isn't told.
@@ -208,21 +208,15 @@ pub(crate) fn load_block(
     unpacked: usize,
     docs: &mut [u32; 128],
     freqs: &mut [u32; 128],
-) -> Loaded
+) -> Result<Loaded, Refusal>
     requires { FoundThere term image.now found × (unpacked + 1 < 2 ^ 64) }
     ensures { BlockLoaded term layout image.now found unpacked docs.new freqs.new result }
 {
     let taken = take_values(image, term, layout, found, unpacked, docs, freqs);
-    let refusal = ask_docs(taken, found.least, docs);
-    if refusal != 0 {
-        return Loaded::Refused(refusal);
-    }
-    let refusal = ask_freqs(taken, freqs);
-    if refusal != 0 {
-        return Loaded::Refused(refusal);
-    }
-    Loaded::Unpacked {
+    ask_docs(taken, found.least, docs)?;
+    ask_freqs(taken, freqs)?;
+    Ok(Loaded {
         unpacked: taken.unpacked,
         kept: taken.kept,
-    }
+    })
 }

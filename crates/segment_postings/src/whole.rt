@@ -5,12 +5,11 @@ ghost use Rattle.format.specs.Basics.{put_at};
 ghost use Rattle.segment_postings.specs.Passed.{docs_in_of};
 ghost use Rattle.segment_postings.specs.ReadWhole.{Walks, Written, WholeRead, read_whole};
 
-use crate::arrays::{first_start, land, start_behind};
+use crate::arrays::{first_start, land};
 use crate::counts::docs_in;
-use crate::layout::{Laid, full_blocks, lay_out};
+use crate::layout::{full_blocks, lay_out};
 use crate::validate::validate;
-use crate::{Reached, Value};
-use format::{COMPRESSION_BLOCK_SIZE, Layout, NO_ROOM, Term};
+use format::{COMPRESSION_BLOCK_SIZE, Layout, Refusal, Term};
 
 // Copies a block's values to where they stand among those of all blocks.
 fn put_block(term: Term, block: usize, values: &[u32], out: &mut [u32])
@@ -19,14 +18,10 @@ fn put_block(term: Term, block: usize, values: &[u32], out: &mut [u32])
 {
     let n = docs_in(term, block);
     let at = COMPRESSION_BLOCK_SIZE * block;
-    let mut i = 0;
-    while i < n {
-        out[at + i] = values[i];
-        i += 1;
-    }
+    out[at..at + n].copy_from_slice(&values[..n]);
 }
 
-// A walk block by block over an image that was found sound, so that none is refused.
+// A walk block by block over an image that was found sound, so that none is refused. It goes as the total's does.
 fn read_laid(image: &[u8], term: Term, layout: Layout, docs: &mut [u32], freqs: &mut [u32])
     requires { Walks term layout image.now (length docs.old) (length freqs.old) }
     ensures { Written term image.now docs.old freqs.old docs.new freqs.new }
@@ -36,42 +31,30 @@ fn read_laid(image: &[u8], term: Term, layout: Layout, docs: &mut [u32], freqs: 
     let mut counts = [0; 128];
     let mut from = first_start(layout);
     loop {
-        match land(image, term, layout, 0, from, &mut ids, &mut counts) {
-            Reached::At(held) => {
-                put_block(term, from.block, &ids, docs);
-                put_block(term, from.block, &counts, freqs);
-                if blocks <= from.block {
-                    return;
-                }
-                from = start_behind(held);
-            }
-            Reached::Refused(_) => return,
+        let Ok(held) = land(image, term, layout, 0, from, &mut ids, &mut counts) else {
+            return;
+        };
+        put_block(term, from.block, &ids, docs);
+        put_block(term, from.block, &counts, freqs);
+        if blocks <= from.block {
+            return;
         }
+        from = held.start_behind();
     }
 }
 
 // All documents and their frequencies, in order, at the start of both slices: how many. Questions 1 to 9 are asked of the whole image,
 // 1 of the requested mode too, and 15 of both slices last; a refusal writes nothing.
-pub fn read(image: &[u8], term: Term, docs: &mut [u32], freqs: &mut [u32]) -> Value
+pub fn read(image: &[u8], term: Term, docs: &mut [u32], freqs: &mut [u32]) -> Result<u64, Refusal>
     ensures { WholeRead (read_whole term image.now (length docs.old) (length freqs.old))
         docs.old freqs.old docs.new freqs.new result }
 {
-    match lay_out(image, term) {
-        Laid::At(layout) => {
-            let refusal = validate(image, term.mode, term.count);
-            if refusal != 0 {
-                return Value::Refused(refusal);
-            }
-            let count = term.count as usize;
-            if docs.len() < count {
-                return Value::Refused(NO_ROOM);
-            }
-            if freqs.len() < count {
-                return Value::Refused(NO_ROOM);
-            }
-            read_laid(image, term, layout, docs, freqs);
-            Value::Is(count as u64)
-        }
-        Laid::Refused(n) => Value::Refused(n),
+    let layout = lay_out(image, term)?;
+    validate(image, term.mode, term.count)?;
+    let count = term.count as usize;
+    if docs.len() < count || freqs.len() < count {
+        return Err(Refusal::NoRoom);
     }
+    read_laid(image, term, layout, docs, freqs);
+    Ok(count as u64)
 }

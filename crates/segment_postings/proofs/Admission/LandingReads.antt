@@ -1,7 +1,8 @@
 -- The block that a walk by landings with target 0 holds is the one that the definitions read at its place, and the next landing
 -- begins where they read on. Where a landing is refused they read no more.
 -- Assumes nothing.
-use Rattle.std.specs.Prelude.{◌≡◌, ℕ, ◌+◌, ◌<◌, ◌≤◌, List, length, take}
+use Rattle.format.specs.declared.refusal.Refusal.{Refusal}
+use Rattle.std.specs.Prelude.{◌≡◌, ℕ, ◌+◌, ◌<◌, ◌≤◌, List, length, take, Ok, Err}
 use mathlib.Core.Path.{sym, ap, ◌∙◌}
 use native.Mathlib.Decide.{dec_le}
 use native.Mathlib.Omega.{arith}
@@ -11,7 +12,7 @@ use lib.Seq.{take_at}
 use Rattle.format.specs.declared.BlockInfo.{BlockInfo}
 use Rattle.format.specs.declared.Layout.{Layout}
 use Rattle.format.specs.declared.Term.{Term}
-use Rattle.format.specs.Basics.{Outcome, ok, refused, and_then, choose, TERMINATED}
+use Rattle.format.specs.Basics.{Outcome, and_then, choose, TERMINATED}
 use Rattle.format.specs.SkipEntry.{block_size_of}
 use Rattle.format.specs.Layout.{full_blocks_of, tail_length, skip_bytes_of}
 use Rattle.format.specs.Reading.{Block, Reading, nothing, before}
@@ -27,7 +28,7 @@ use Rattle.segment_postings.specs.Passed.{docs_in_of}
 use Rattle.segment_postings.proofs.find.FoundBlock.{entry_of}
 use Rattle.segment_postings.proofs.load.BlockQuestions.{load_full, load_tail}
 use Rattle.segment_postings.proofs.Laws.CursorTurns.{landing_is}
-use Rattle.segment_postings.proofs.Admission.WalkReads.{walking, loaded_at, loaded_at-found, loaded_at-numbered, reads_none, reading_at, reading_at-entry, reading_at-tail}
+use Rattle.segment_postings.proofs.Admission.WalkReads.{walking, loaded_at, loaded_at-found, reads_none, reading_at, reading_at-entry, reading_at-tail}
 use Rattle.segment_postings.proofs.Admission.WalkReads.{entry-same, found-entry, found-same}
 
 -- ---- how many documents a block holds
@@ -87,15 +88,15 @@ held_of f unpacked block e =
 -- ---- the walk
 
 -- what is made of a block that was read asks no question
-loads-none : {A B C : Type 0} (o : Outcome A) (g : A → Outcome B) (k : A → B → C) {n : ℕ}
-    → and_then o (λ a. and_then (g a) λ b. ok (k a b)) ≡ refused n → and_then o g ≡ refused n
+loads-none : {A B C : Type 0} (o : Outcome A) (g : A → Outcome B) (k : A → B → C) {r : Refusal}
+    → and_then o (λ a. and_then (g a) λ b. Ok (k a b)) ≡ Err r → and_then o g ≡ Err r
 unfolding and_then
-loads-none {B = B} {C = C} (ok a) g k {n} e = go (g a) e
+loads-none {B = B} {C = C} (Ok a) g k {r} e = go (g a) e
   where
-    go : (o : Outcome B) → and_then o (λ b. ok (k a b)) ≡ refused n → o ≡ refused n
-    go (ok b) h = absurd (refused≢ok (sym h))
-    go (refused m) h = cc
-loads-none (refused m) g k e = cc
+    go : (o : Outcome B) → and_then o (λ b. Ok (k a b)) ≡ Err r → o ≡ Err r
+    go (Ok b) h = absurd (refused≢ok (sym h))
+    go (Err s) h = cc
+loads-none (Err s) g k e = cc
 
 module _ (t : Term) (l : Layout) (bs : List ℕ) (b at least : ℕ) where
   abbrev entry : BlockInfo
@@ -113,7 +114,7 @@ module _ (t : Term) (l : Layout) (bs : List ℕ) (b at least : ℕ) where
 
   pub record BlockHeld (h : Held) (docs freqs : List ℕ) : Type 0 where
     pub block : Block
-    pub read : loaded_at t l bs b at least ≡ ok block
+    pub read : loaded_at t l bs b at least ≡ Ok block
     pub docs_many : length block.docs ≡ docs_in_of t b
     pub freqs_many : length block.freqs ≡ docs_in_of t b
     pub docs_are : take (docs_in_of t b) docs ≡ block.docs
@@ -123,25 +124,19 @@ module _ (t : Term) (l : Layout) (bs : List ℕ) (b at least : ℕ) where
     pub next : b < full_blocks_of t → Next h
 
   -- .. as many as it should have
-  load_many : (f : Found) {block : Block} → f.block ≡ b → load_block_of t l bs f ≡ ok block → SoundBlock (docs_in_of t b) f.least block
+  load_many : (f : Found) {block : Block} → f.block ≡ b → load_block_of t l bs f ≡ Ok block → SoundBlock (docs_in_of t b) f.least block
   load_many f here e = elim (dec_le (full_blocks_of t) b) [
     | yes past ↦ rw (docs_in_tail t b past) (tail_block-sound _ _ _ _ _ _ (sym (load_tail t l bs f (omega arith)) ∙ e)).sound
     | no some ↦ rw (docs_in_full t b (omega arith)) (full_block-sound _ _ _ _ (sym (load_full t l bs f (omega arith)) ∙ e)).0.sound
   ]
 
   -- a landing that is refused: nothing is read from there on, by that question
-  pub record Stops (n : ℕ) : Type 0 where
-    pub reads : reading_at t l bs b at least ≡ nothing n
-    pub numbered : 0 < n
-
-  pub landing-none : {n : ℕ} → landing t bs l 0 (walking b at least) ≡ refused n → Stops n
+  pub landing-none : {r : Refusal} → landing t bs l 0 (walking b at least) ≡ Err r → reading_at t l bs b at least ≡ nothing (Err r)
   unfolding loaded_at
-  landing-none {n} e =
-      let none : loaded_at t l bs b at least ≡ refused n = loads-none _ _ _ (sym (landing_is t bs l 0 (walking b at least)) ∙ e) in
-      record { reads = reads_none t l bs b at least none; numbered = rw none at (loaded_at-numbered t l bs b at least) }
+  landing-none e = reads_none t l bs b at least (loads-none _ _ _ (sym (landing_is t bs l 0 (walking b at least)) ∙ e))
 
   module _ {h : Held} {docs freqs : List ℕ} where
-    pub block_held : at ≤ length bs → landing t bs l 0 (walking b at least) ≡ ok (cursor_of h docs freqs) → BlockHeld h docs freqs
+    pub block_held : at ≤ length bs → landing t bs l 0 (walking b at least) ≡ Ok (cursor_of h docs freqs) → BlockHeld h docs freqs
     block_held start-inside e =
         let found = and_then-ok _ _ (sym (landing_is t bs l 0 (walking b at least)) ∙ e) in
         let loads = and_then-ok _ _ found.2 in
@@ -173,15 +168,15 @@ module _ (t : Term) (l : Layout) (bs : List ℕ) (b at least : ℕ) where
         }
 
     module _ (k : BlockHeld h docs freqs) where
-      pub reads_on : b < full_blocks_of t → reading_at t l bs b at least ≡ (before (ok k.block) λ _. reading_at t l bs (b + 1) h.next (h.last_doc + 1))
+      pub reads_on : b < full_blocks_of t → reading_at t l bs b at least ≡ (before (Ok k.block) λ _. reading_at t l bs (b + 1) h.next (h.last_doc + 1))
       reads_on some = rw (reading_at-entry t l bs b at least some, k.read, (k.next some).next_is, (k.next some).last_is)
 
-      pub reads-last : full_blocks_of t ≤ b → reading_at t l bs b at least ≡ (before (ok k.block) λ _. nothing 0)
+      pub reads-last : full_blocks_of t ≤ b → reading_at t l bs b at least ≡ (before (Ok k.block) λ _. nothing (Ok tt))
       reads-last past = rw (reading_at-tail t l bs b at least past, k.read)
 
       -- whatever is read behind it
-      pub reads_first : (rest : Reading) × (reading_at t l bs b at least ≡ (before (ok k.block) λ _. rest))
+      pub reads_first : (rest : Reading) × (reading_at t l bs b at least ≡ (before (Ok k.block) λ _. rest))
       reads_first = elim (dec_le (full_blocks_of t) b) [
-        | yes past ↦ (nothing 0, reads-last past)
+        | yes past ↦ (nothing (Ok tt), reads-last past)
         | no some ↦ (_, reads_on (omega arith))
       ]

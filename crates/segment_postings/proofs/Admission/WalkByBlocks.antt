@@ -1,9 +1,10 @@
 -- A walk by steps over any image, sound or not, block by block. What is kept at each block that it lands on is that the image's reading
 -- is the blocks passed and then what is read from this one on. The arrays hold what is read of the block, so the answer at a place is
 -- what the documents and frequencies that are read have at the position. The next landing begins where the definitions read on: it
--- brings the walk on, or is refused under the number with which the reading ends.
+-- brings the walk on, or is refused by the question that ends the reading.
 -- Assumes nothing.
-use Rattle.std.specs.Prelude.{◌≡◌, ℕ, ◌+◌, ◌*◌, ◌<◌, ◌≤◌, min, true, List, [], ◌∷◌, ◌++◌, length, get_or}
+use Rattle.format.specs.declared.refusal.Refusal.{Refusal}
+use Rattle.std.specs.Prelude.{◌≡◌, ℕ, ◌+◌, ◌*◌, ◌<◌, ◌≤◌, min, true, List, [], ◌∷◌, ◌++◌, length, get_or, Ok, Err}
 use mathlib.Core.List.{append_assoc, append-nil}
 use mathlib.Core.Path.{refl, sym, ap, ◌∙◌}
 use native.Mathlib.Decide.{dec_le}
@@ -13,12 +14,11 @@ use lib.ListN.{length-append, get_or-append}
 use lib.Seq.{get_or-append-add, get_or-take}
 use Rattle.format.specs.declared.Layout.{Layout}
 use Rattle.format.specs.declared.Term.{Term}
-use Rattle.format.specs.Basics.{ok, choose, TERMINATED}
+use Rattle.format.specs.Basics.{choose, TERMINATED}
 use Rattle.format.specs.Layout.{layout, full_blocks_of}
 use Rattle.format.specs.Reading.{Block, Reading, nothing, before, reading, docs_of, freqs_of}
 use Rattle.format.proofs.Outcome.{ok_same, and_then-ok}
 use Rattle.format.proofs.Sound.{layout-inside, whole-count}
-use Rattle.segment_postings.specs.declared.Answer.TheVariants.{At}
 use Rattle.segment_postings.specs.declared.SegmentPostings.{SegmentPostings}
 use Rattle.segment_postings.specs.Landing.{holding, landing}
 use Rattle.segment_postings.specs.Cursor.{in_bounds_of, answer_at_of, position, held_at, at_place, least_after_of, stepping}
@@ -68,9 +68,9 @@ middle a m r n p z e h = rw (← e, get_or-append-add) (get_or-append m r z p h)
 
 -- blocks passed, and what is read behind them
 abbrev preceded : List Block → Reading → Reading
-preceded front r = record { blocks = front ++ r.blocks; refusal = r.refusal }
+preceded front r = record { blocks = front ++ r.blocks; verdict = r.verdict }
 
-module _ (t : Term) (bs : List ℕ) (l : Layout) (laid : layout t bs ≡ ok l) where
+module _ (t : Term) (bs : List ℕ) (l : Layout) (laid : layout t bs ≡ Ok l) where
   abbrev docs : List ℕ
   docs = docs_of (reading t bs).blocks
 
@@ -112,7 +112,7 @@ module _ (t : Term) (bs : List ℕ) (l : Layout) (laid : layout t bs ≡ ok l) w
       }
 
   pub landing-on : {b at least : ℕ} {front : List Block} {d : SegmentPostings} → BlocksPassed b at least front
-      → landing t bs l 0 (walking b at least) ≡ ok d → OnBlock b d
+      → landing t bs l 0 (walking b at least) ≡ Ok d → OnBlock b d
   unfolding holding
   landing-on {b} {at} {least} {front} {d} k e =
       let found = and_then-ok _ _ (sym (landing_is t bs l 0 (walking b at least)) ∙ e) in
@@ -145,10 +145,10 @@ module _ (t : Term) (bs : List ℕ) (l : Layout) (laid : layout t bs ≡ ok l) w
 
     -- ---- what is read of it and behind it
 
-    whole : (rest : Reading) × (reading t bs ≡ preceded k.front (before (ok block) λ _. rest))
+    whole : (rest : Reading) × (reading t bs ≡ preceded k.front (before (Ok block) λ _. rest))
     whole = elim (dec_le (full_blocks_of t) b) [
       | yes past ↦
-          (nothing 0, k.passed.reads ∙ ap (preceded k.front) (reads-last t l bs b k.at k.least k.held past))
+          (nothing (Ok tt), k.passed.reads ∙ ap (preceded k.front) (reads-last t l bs b k.at k.least k.held past))
       | no some ↦ (_, k.passed.reads ∙ ap (preceded k.front) (reads_on t l bs b k.at k.least k.held (omega arith)))
     ]
 
@@ -187,13 +187,13 @@ module _ (t : Term) (bs : List ℕ) (l : Layout) (laid : layout t bs ≡ ok l) w
     ]
 
     -- the tail ends the reading
-    pub tail-ends : full_blocks_of t ≤ b → ((reading t bs).refusal ≡ 0) × (length docs ≡ t.count)
+    pub tail-ends : full_blocks_of t ≤ b → ((reading t bs).verdict ≡ Ok tt) × (length docs ≡ t.count)
     unfolding before nothing
     tail-ends past =
         let last = k.passed.reads ∙ ap (preceded k.front) (reads-last t l bs b k.at k.least k.held past) in
         let all : docs ≡ docs_of k.front ++ block.docs = ap (λ (r : Reading). docs_of r.blocks) last ∙ rw (docs-append, docs-one) in
         let many = docs_in_tail t b past in (
-          ap (λ (r : Reading). r.refusal) last,
+          ap (λ (r : Reading). r.verdict) last,
           rw all (simp length-append (omega (arith, k.passed.docs_many, k.held.docs_many, whole-count t, k.passed.block_most_is))),
         )
 
@@ -204,7 +204,13 @@ module _ (t : Term) (bs : List ℕ) (l : Layout) (laid : layout t bs ≡ ok l) w
       here = at_place d p
 
       pub answer-here : 128 * b + p < t.count
-          → answer_at_of t here ≡ At (get_or docs (128 * b + p) TERMINATED) (get_or freqs (128 * b + p) 0) (b + 1) (min (full_blocks_of t) (b + 1))
+          → answer_at_of t here
+          ≡ record {
+            doc = get_or docs (128 * b + p) TERMINATED;
+            freq = get_or freqs (128 * b + p) 0;
+            unpacked = b + 1;
+            entries = min (full_blocks_of t) (b + 1);
+          }
       unfolding choose position at_place
       answer-here h =
           let there = place-there p small h in
@@ -218,7 +224,8 @@ module _ (t : Term) (bs : List ℕ) (l : Layout) (laid : layout t bs ≡ ok l) w
             k.entries_are,
           )
 
-      pub answer-end : 128 * b + p ≡ t.count → answer_at_of t here ≡ At TERMINATED 0 (b + 1) (min (full_blocks_of t) (b + 1))
+      pub answer-end : 128 * b + p ≡ t.count
+          → answer_at_of t here ≡ record { doc = TERMINATED; freq = 0; unpacked = b + 1; entries = min (full_blocks_of t) (b + 1) }
       unfolding choose position at_place
       answer-end e = rw (answer_at_of-is, k.block_is, eq-eqb (128 * b + p) t.count e, k.unpacked_is, k.entries_are)
 
@@ -237,11 +244,11 @@ module _ (t : Term) (bs : List ℕ) (l : Layout) (laid : layout t bs ≡ ok l) w
               entries_most = omega (arith, k.entries_are);
             })
 
-        pub step-ends : 128 * b + p ≡ t.count → stepping here bs t ≡ ok here
+        pub step-ends : 128 * b + p ≡ t.count → stepping here bs t ≡ Ok here
         unfolding at_place position
         step-ends e = stepping-ended here bs t bounds (eq-eqb (128 * d.held.block + p) t.count (omega (arith, k.block_is)))
 
-        pub step-goes : 128 * b + p < t.count → p + 1 < 128 → stepping here bs t ≡ ok (at_place d (p + 1))
+        pub step-goes : 128 * b + p < t.count → p + 1 < 128 → stepping here bs t ≡ Ok (at_place d (p + 1))
         unfolding at_place position
         step-goes h m = stepping-within here bs t bounds (ne_eqb (128 * d.held.block + p) t.count (λ e. omega (arith, k.block_is))) m
 
@@ -278,9 +285,9 @@ module _ (t : Term) (bs : List ℕ) (l : Layout) (laid : layout t bs ≡ ok l) w
         }
 
   -- where nothing more is read, the documents are those of the blocks passed
-  pub passed_stops : {b at least n : ℕ} {front : List Block} → BlocksPassed b at least front → reading_at t l bs b at least ≡ nothing n
-      → ((reading t bs).refusal ≡ n) × (length docs ≡ 128 * b)
+  pub passed_stops : {b at least : ℕ} {front : List Block} {r : Refusal} → BlocksPassed b at least front
+      → reading_at t l bs b at least ≡ nothing (Err r) → ((reading t bs).verdict ≡ Err r) × (length docs ≡ 128 * b)
   unfolding nothing
   passed_stops {front = front} k e =
       let all = k.reads ∙ ap (preceded front) e in
-      (ap (λ (r : Reading). r.refusal) all, ap (λ (r : Reading). length (docs_of r.blocks)) all ∙ rw append-nil k.docs_many)
+      (ap (λ (r : Reading). r.verdict) all, ap (λ (r : Reading). length (docs_of r.blocks)) all ∙ rw append-nil k.docs_many)

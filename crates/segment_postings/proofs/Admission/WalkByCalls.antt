@@ -1,22 +1,22 @@
 -- A walk by steps over any image, call by call: opening and then k steps. Where opening isn't refused, the walk stands on a block that is
--- read (WalkByBlocks.antt), at position k or at the end, or a step was refused under the number with which the reading ends, behind the
+-- read (WalkByBlocks.antt), at position k or at the end, or a step was refused by the question that ends the reading, behind the
 -- documents that are read; then the cursor stays, and each further step is refused alike. By induction on the calls.
 -- Assumes nothing.
-use Rattle.std.specs.Prelude.{◌≡◌, ℕ, zero, suc, ◌+◌, ◌*◌, ◌/◌, ◌<◌, ◌≤◌, min, List, ◌∷◌, length, get_or, replicate}
+use Rattle.format.specs.declared.refusal.Refusal.{Refusal}
+use Rattle.std.specs.Prelude.{◌≡◌, ℕ, zero, suc, ◌+◌, ◌*◌, ◌/◌, ◌<◌, ◌≤◌, min, List, ◌∷◌, length, get_or, replicate, Ok, Err}
 use mathlib.Core.Path.{refl, sym, ap, ◌∙◌}
 use native.Mathlib.Decide.{dec_le}
 use native.Mathlib.Numerals.{add-one}
 use native.Mathlib.Omega.{arith}
 use Rattle.format.specs.declared.Layout.{Layout}
 use Rattle.format.specs.declared.Term.{Term}
-use Rattle.format.specs.Basics.{Outcome, ok, refused, and_then, tabulate_from, tabulate, TERMINATED}
+use Rattle.format.specs.Basics.{Outcome, and_then, tabulate_from, tabulate, TERMINATED}
 use Rattle.format.specs.Layout.{layout, full_blocks_of}
 use Rattle.format.specs.Model.{step}
 use Rattle.format.specs.Reading.{nothing, read_all, reading, docs_of, freqs_of}
-use Rattle.format.proofs.Outcome.{refused≢ok, Numbered}
+use Rattle.format.proofs.Outcome.{refused≢ok}
 use Rattle.format.proofs.Opened.{reading-is}
-use Rattle.format.proofs.Sound.{layout-numbered, whole-count, tail-short}
-use Rattle.segment_postings.specs.declared.Answer.TheVariants.{At, Refused}
+use Rattle.format.proofs.Sound.{whole-count, tail-short}
 use Rattle.segment_postings.specs.declared.Moved.{Moved}
 use Rattle.segment_postings.specs.declared.SegmentPostings.{SegmentPostings}
 use Rattle.segment_postings.specs.Landing.{first_start_of, landing}
@@ -60,51 +60,49 @@ module _ (bs : List ℕ) (t : Term) where
   abbrev freqs : List ℕ
   freqs = freqs_of (reading t bs).blocks
 
-  abbrev refusal : ℕ
-  refusal = (reading t bs).refusal
+  abbrev verdict : Outcome (Unit {0})
+  verdict = (reading t bs).verdict
 
   -- ---- opening
 
   -- refused: nothing is read
-  pub unopened : {n : ℕ} → opening bs t ≡ refused n → (reading t bs ≡ nothing n) × (0 < n)
+  pub unopened : {r : Refusal} → opening bs t ≡ Err r → reading t bs ≡ nothing (Err r)
   unfolding and_then read_all
-  unopened {n} e = go (layout t bs) refl (layout-numbered t bs) (sym (opening-is bs t) ∙ e)
+  unopened {r} e = go (layout t bs) refl (sym (opening-is bs t) ∙ e)
     where
-      go : (o : Outcome Layout) → layout t bs ≡ o → Numbered o
-          → and_then o (λ l. landing t bs l 0 (first_start_of l)) ≡ refused n → (reading t bs ≡ nothing n) × (0 < n)
-      go (ok l) laid k h =
-          let stops = landing-none t l bs 0 l.postings 0 h in
-          (reading-whole t l bs laid ∙ stops.reads, stops.numbered)
-      go (refused m) laid k h =
-          let same : m ≡ n = cc in
-          (reading-is t bs ∙ ap (read_all t bs) laid ∙ ap nothing same, rw same at k)
+      go : (o : Outcome Layout) → layout t bs ≡ o → and_then o (λ l. landing t bs l 0 (first_start_of l)) ≡ Err r
+          → reading t bs ≡ nothing (Err r)
+      go (Ok l) laid h = reading-whole t l bs laid ∙ landing-none t l bs 0 l.postings 0 h
+      go (Err s) laid h =
+          let same : s ≡ r = cc in
+          reading-is t bs ∙ ap (read_all t bs) laid ∙ ap (λ (n : Refusal). nothing (Err n)) same
 
   -- ---- the walk after k steps
 
   -- on a block that is read, at position k, or at the end
   pub record OnWalk (k : ℕ) : Type 0 where
     l : Layout
-    laid : layout t bs ≡ ok l
+    laid : layout t bs ≡ Ok l
     block : ℕ
     place : ℕ
     first : SegmentPostings
     on : OnBlock t bs l laid block first
     small : place < 128
     there : 128 * block + place ≡ min k t.count
-    is : walk_at bs t k ≡ record { answer = answer_at_of t (at_place first place); cursor = at_place first place }
+    is : walk_at bs t k ≡ record { answer = Ok (answer_at_of t (at_place first place)); cursor = at_place first place }
 
   -- at or behind the last document that is read, and the next step is refused
-  pub record Met (k : ℕ) : Type 0 where
-    pub some : 0 < refusal
+  pub record Met (r : Refusal) (k : ℕ) : Type 0 where
+    pub read : verdict ≡ Err r
     pub behind : length docs ≤ suc k
-    refuses : stepping (walk_at bs t k).cursor bs t ≡ refused refusal
+    refuses : stepping (walk_at bs t k).cursor bs t ≡ Err r
 
   pub data Comes : ℕ → Type 0 where
     stands : {k : ℕ} → OnWalk k → Comes k
-    met : {k : ℕ} → Met k → Comes (suc k)
+    met : {r : Refusal} {k : ℕ} → Met r k → Comes (suc k)
 
-  landed_stands : (k : ℕ) {l : Layout} (laid : layout t bs ≡ ok l) {b : ℕ} {d : SegmentPostings} → OnBlock t bs l laid b d → 128 * b ≡ min k t.count
-      → walk_at bs t k ≡ record { answer = answer_at_of t d; cursor = d } → OnWalk k
+  landed_stands : (k : ℕ) {l : Layout} (laid : layout t bs ≡ Ok l) {b : ℕ} {d : SegmentPostings} → OnBlock t bs l laid b d → 128 * b ≡ min k t.count
+      → walk_at bs t k ≡ record { answer = Ok (answer_at_of t d); cursor = d } → OnWalk k
   unfolding at_place
   landed_stands k {l} laid {b} {d} on there is =
       record {
@@ -119,14 +117,14 @@ module _ (bs : List ℕ) (t : Term) where
         is = rw (← on.place_is) is;
       }
 
-  stands-first : {c : SegmentPostings} → opening bs t ≡ ok c → OnWalk 0
+  stands-first : {c : SegmentPostings} → opening bs t ≡ Ok c → OnWalk 0
   unfolding and_then
   stands-first {c} e = go (layout t bs) refl (sym (opening-is bs t) ∙ e)
     where
-      go : (o : Outcome Layout) → layout t bs ≡ o → and_then o (λ l. landing t bs l 0 (first_start_of l)) ≡ ok c → OnWalk 0
-      go (ok l) laid h =
+      go : (o : Outcome Layout) → layout t bs ≡ o → and_then o (λ l. landing t bs l 0 (first_start_of l)) ≡ Ok c → OnWalk 0
+      go (Ok l) laid h =
           landed_stands 0 laid (landing-on t bs l laid (passed_none t bs l laid) h) (omega arith) (walk_at-first ∙ rw (e, moved_ok))
-      go (refused n) laid h = absurd (refused≢ok h)
+      go (Err r) laid h = absurd (refused≢ok h)
 
   module _ {k : ℕ} (s : OnWalk k) where
     abbrev here : SegmentPostings
@@ -180,20 +178,15 @@ module _ (bs : List ℕ) (t : Term) where
         go : (o : Outcome SegmentPostings)
             → landing t bs s.l 0 (walking (s.block + 1) s.first.held.next (s.first.held.last_doc + 1)) ≡ o
             → Comes (suc k)
-        go (ok d) e =
-            let comes : stepping here bs t ≡ ok d = rw last (step-leaves t bs s.l s.laid on some ∙ e) in
+        go (Ok d) e =
+            let comes : stepping here bs t ≡ Ok d = rw last (step-leaves t bs s.l s.laid on some ∙ e) in
             let landed = landing-on t bs s.l s.laid (passed_on t bs s.l s.laid on some) e in
             stands (landed_stands (suc k) s.laid landed (omega (arith, s.there, whole-count t)) (next_is comes ∙ rw moved_ok))
-        go (refused n) e =
-            let comes : stepping here bs t ≡ refused n = rw last (step-leaves t bs s.l s.laid on some ∙ e) in
-            let stops = landing-none t s.l bs _ _ _ e in
-            let read = passed_stops t bs s.l s.laid (passed_on t bs s.l s.laid on some) stops.reads in
+        go (Err r) e =
+            let comes : stepping here bs t ≡ Err r = rw last (step-leaves t bs s.l s.laid on some ∙ e) in
+            let read = passed_stops t bs s.l s.laid (passed_on t bs s.l s.laid on some) (landing-none t s.l bs _ _ _ e) in
             met {k = k}
-            (record {
-              some = omega (arith, read.0, stops.numbered);
-              behind = omega (arith, read.1, s.there);
-              refuses = rw (s.is, read.0) comes;
-            })
+            (record { read = read.0; behind = omega (arith, read.1, s.there); refuses = rw s.is comes })
 
     steps : Comes (suc k)
     steps = elim (dec_le t.count k) [
@@ -209,20 +202,29 @@ module _ (bs : List ℕ) (t : Term) where
     -- at a document
     pub stands-shows : k < t.count
         → (k < length docs)
-        × ((walk_at bs t k).answer ≡ At (get_or docs k TERMINATED) (get_or freqs k 0) (k / 128 + 1) (min (full_blocks_of t) (k / 128 + 1)))
+        × ((walk_at bs t k).answer
+        ≡ Ok (record {
+          doc = get_or docs k TERMINATED;
+          freq = get_or freqs k 0;
+          unpacked = k / 128 + 1;
+          entries = min (full_blocks_of t) (k / 128 + 1);
+        }))
     stands-shows h =
         let at-k : 128 * s.block + s.place ≡ k = omega (arith, s.there) in
         let in_block : s.block ≡ k / 128 = omega (arith, s.small) in
         let below = place-there t bs s.l s.laid on s.place s.small (omega arith) in (
           rw at-k at (position-there t bs s.l s.laid on s.place below),
           ap (λ (m : Moved). m.answer) s.is
-              ∙ answer-here t bs s.l s.laid on s.place s.small (omega arith)
+              ∙ ap Ok (answer-here t bs s.l s.laid on s.place s.small (omega arith))
               ∙ rw (at-k, in_block),
         )
 
     -- at the end
     pub stands-ends : t.count ≤ k
-        → (refusal ≡ 0) × (length docs ≡ t.count) × ((walk_at bs t k).answer ≡ At TERMINATED 0 (full_blocks_of t + 1) (full_blocks_of t))
+        → (verdict ≡ Ok tt)
+        × (length docs ≡ t.count)
+        × ((walk_at bs t k).answer
+        ≡ Ok (record { doc = TERMINATED; freq = 0; unpacked = full_blocks_of t + 1; entries = full_blocks_of t }))
     stands-ends h =
         let at-end : 128 * s.block + s.place ≡ t.count = omega (arith, s.there) in
         let in_tail : s.block ≡ full_blocks_of t = omega (arith, s.small, on.passed.block_most_is, whole-count t, tail-short t) in
@@ -231,21 +233,21 @@ module _ (bs : List ℕ) (t : Term) where
           all.0,
           all.1,
           ap (λ (m : Moved). m.answer) s.is
-              ∙ answer-end t bs s.l s.laid on s.place s.small at-end
+              ∙ ap Ok (answer-end t bs s.l s.laid on s.place s.small at-end)
               ∙ rw (in_tail, read),
         )
 
   -- the cursor stays
-  pub met-is : {k : ℕ} → Met k → walk_at bs t (suc k) ≡ record { answer = Refused refusal; cursor = (walk_at bs t k).cursor }
-  met-is {k} m = walk_at-next k ∙ rw (m.refuses, moved-refused)
+  pub met-is : {r : Refusal} {k : ℕ} → Met r k → walk_at bs t (suc k) ≡ record { answer = Err r; cursor = (walk_at bs t k).cursor }
+  met-is {k = k} m = walk_at-next k ∙ rw (m.refuses, moved-refused)
 
-  met-again : {k : ℕ} → Met k → Met (suc k)
-  met-again m = record { some = m.some; behind = omega (arith, m.behind); refuses = rw (met-is m) m.refuses }
+  met-again : {r : Refusal} {k : ℕ} → Met r k → Met r (suc k)
+  met-again m = record { read = m.read; behind = omega (arith, m.behind); refuses = rw (met-is m) m.refuses }
 
   onward : {k : ℕ} → Comes k → Comes (suc k)
   onward (stands s) = steps s
   onward (met m) = met (met-again m)
 
-  pub comes : {c : SegmentPostings} → opening bs t ≡ ok c → (k : ℕ) → Comes k
+  pub comes : {c : SegmentPostings} → opening bs t ≡ Ok c → (k : ℕ) → Comes k
   comes e zero = stands (stands-first e)
   comes e (suc k) = onward (comes e k)

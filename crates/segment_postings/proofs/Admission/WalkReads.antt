@@ -2,7 +2,9 @@
 -- definitions go by what is left of the skip bytes and of the posting bytes, the search by a block's number and by a place in the image:
 -- one turn of the one is one turn of the other.
 -- Assumes nothing.
-use Rattle.std.specs.Prelude.{◌≡◌, ℕ, suc, ◌+◌, ◌-◌, ◌*◌, ◌<◌, ◌≤◌, Bool, true, false, ◌&&◌ as and, ltb, List, length, drop}
+use Rattle.format.specs.declared.refusal.Refusal.{Refusal}
+use Rattle.format.specs.declared.refusal.Refusal.TheVariants.{EntryBroken}
+use Rattle.std.specs.Prelude.{◌≡◌, ℕ, suc, ◌+◌, ◌-◌, ◌*◌, ◌<◌, ◌≤◌, Bool, true, false, ◌&&◌ as and, ltb, List, length, drop, Ok, Err}
 use mathlib.Core.Path.{refl, sym, ap, ◌∙◌}
 use Prim.Native.Nat.{zero-le}
 use native.Mathlib.Nat.{mul-add, mul-one, mul-zero, sub-zero}
@@ -14,13 +16,11 @@ use lib.Seq.{drop-drop}
 use Rattle.format.specs.declared.BlockInfo.{BlockInfo}
 use Rattle.format.specs.declared.Layout.{Layout}
 use Rattle.format.specs.declared.Term.{Term}
-use Rattle.format.specs.Basics.{Outcome, ok, refused, and_then, ask}
-use Rattle.format.specs.Refusal.{entry_broken}
+use Rattle.format.specs.Basics.{Outcome, and_then, ask}
 use Rattle.format.specs.SkipEntry.{has_freq_of, entry_size_of, block_size_of, entry_fits_of}
 use Rattle.format.specs.Layout.{layout, full_blocks_of, skip_bytes_of, posting_bytes_of}
 use Rattle.format.specs.Reading.{Block, Reading, nothing, before, full_block, entry_block, walk_of, read_from, reading}
-use Rattle.format.proofs.Outcome.{refused≢ok, ok_same, Numbered}
-use Rattle.format.proofs.SoundBlock.{entry_block-numbered, tail_block-numbered}
+use Rattle.format.proofs.Outcome.{refused≢ok, ok_same}
 use Rattle.format.proofs.Opened.{entry_block-is, read_from-zero, read_from-suc, read_all-ok, reading-is}
 use Rattle.segment_postings.specs.declared.find.Found.{Found}
 use Rattle.segment_postings.specs.declared.find.Start.{Start}
@@ -36,7 +36,7 @@ abbrev pub walking : ℕ → ℕ → ℕ → Start
 walking b at least = record { block = b; at = at; least = least; entries = b; unpacked = b }
 
 module _ (t : Term) (l : Layout) (bs : List ℕ) where
-  pub walking-from : {b at least : ℕ} → layout t bs ≡ ok l → b ≤ full_blocks_of t → at ≤ length bs → FindsFrom t l bs (walking b at least)
+  pub walking-from : {b at least : ℕ} → layout t bs ≡ Ok l → b ≤ full_blocks_of t → at ≤ length bs → FindsFrom t l bs (walking b at least)
   walking-from laid most inside = record { laid_out = laid; block_most_is = most; inside = inside; entries_most = omega arith }
 
   -- block b, found and unpacked
@@ -56,7 +56,7 @@ module _ (t : Term) (l : Layout) (bs : List ℕ) where
     -- ---- a block with an entry
 
     module _ (some : b < full_blocks_of t) where
-      loaded_at_broken : entry_fits_of least (length bs - at) e ≡ false → loaded_at b at least ≡ refused entry_broken
+      loaded_at_broken : entry_fits_of least (length bs - at) e ≡ false → loaded_at b at least ≡ Err EntryBroken
       unfolding loaded_at and_then
       loaded_at_broken t₅ = rw (find_broken l.option (skip_bytes_of l bs) bs 0 (full_blocks_of t) (walking b at least) e some refl t₅)
 
@@ -73,7 +73,7 @@ module _ (t : Term) (l : Layout) (bs : List ℕ) where
       entry-same = rw (entry_block-is, length-drop) (go (entry_fits_of least (length bs - at) e) refl)
         where
           go : (t₅ : Bool) → entry_fits_of least (length bs - at) e ≡ t₅
-              → ask t₅ entry_broken (λ _. full_block (and (has_freq_of l.option) (ltb 0 t.requested)) least e (drop at bs)) ≡ loaded_at b at least
+              → ask t₅ EntryBroken (λ _. full_block (and (has_freq_of l.option) (ltb 0 t.requested)) least e (drop at bs)) ≡ loaded_at b at least
           go true h = sym (loaded_at-entry h)
           go false h = sym (loaded_at_broken h)
 
@@ -88,55 +88,44 @@ module _ (t : Term) (l : Layout) (bs : List ℕ) where
 
     -- ---- the tail
 
-    pub reading_at-tail : full_blocks_of t ≤ b → reading_at b at least ≡ (before (loaded_at b at least) λ _. nothing 0)
+    pub reading_at-tail : full_blocks_of t ≤ b → reading_at b at least ≡ (before (loaded_at b at least) λ _. nothing (Ok tt))
     unfolding reading_at loaded_at and_then
     reading_at-tail h =
         let none : full_blocks_of t - b ≡ 0 = omega arith in
         rw (find_end l.option (skip_bytes_of l bs) bs 0 (full_blocks_of t) (walking b at least) tail_info_of h refl, none, read_from-zero)
-        (ap (λ (o : Outcome Block). before o (λ _. nothing 0))
+        (ap (λ (o : Outcome Block). before o (λ _. nothing (Ok tt)))
         (sym (load_tail t l bs (record { block = b; at = at; least = least; info = tail_info_of; entries = b }) h)))
 
     -- ---- the first question that is answered no
 
-    pub reads_none : {n : ℕ} → loaded_at b at least ≡ refused n → reading_at b at least ≡ nothing n
+    pub reads_none : {r : Refusal} → loaded_at b at least ≡ Err r → reading_at b at least ≡ nothing (Err r)
     unfolding before
     reads_none h = elim (dec_le (full_blocks_of t) b) [
       | yes past ↦ rw (reading_at-tail past, h)
       | no some ↦ rw (reading_at-entry (omega arith), h)
     ]
 
-    pub reading_stops : {n : ℕ} → loaded_at b at least ≡ refused n → (reading_at b at least).refusal ≡ n
+    pub reading_stops : {r : Refusal} → loaded_at b at least ≡ Err r → (reading_at b at least).verdict ≡ Err r
     unfolding nothing
-    reading_stops h = ap (λ (r : Reading). r.refusal) (reads_none h)
+    reading_stops h = ap (λ (r : Reading). r.verdict) (reads_none h)
 
-    -- its number is a question's
-    pub loaded_at-numbered : Numbered (loaded_at b at least)
-    unfolding loaded_at and_then
-    loaded_at-numbered = elim (dec_le (full_blocks_of t) b) [
-      | yes past ↦
-          let f : Found = record { block = b; at = at; least = least; info = tail_info_of; entries = b } in
-          rw (find_end l.option (skip_bytes_of l bs) bs 0 (full_blocks_of t) (walking b at least) tail_info_of past refl, load_tail t l bs f past)
-          (tail_block-numbered _ _ _ _ _ _)
-      | no some ↦ rw (← entry-same (omega arith)) (entry_block-numbered _ _ _ _ _)
-    ]
-
-    reading-goes-on : {block : Block} → b < full_blocks_of t → loaded_at b at least ≡ ok block
-        → (reading_at b at least).refusal ≡ (reading_at (b + 1) (at + block_size_of e) (e.last_doc + 1)).refusal
+    reading-goes-on : {block : Block} → b < full_blocks_of t → loaded_at b at least ≡ Ok block
+        → (reading_at b at least).verdict ≡ (reading_at (b + 1) (at + block_size_of e) (e.last_doc + 1)).verdict
     unfolding before
     reading-goes-on some h = rw (reading_at-entry some, h)
 
-    reading-ends : {block : Block} → full_blocks_of t ≤ b → loaded_at b at least ≡ ok block → (reading_at b at least).refusal ≡ 0
+    reading-ends : {block : Block} → full_blocks_of t ≤ b → loaded_at b at least ≡ Ok block → (reading_at b at least).verdict ≡ Ok tt
     unfolding before nothing
     reading-ends past h = rw (reading_at-tail past, h)
 
     -- ---- the block that a search with target 0 comes to, if any
 
-    pub loaded_at-none : {n : ℕ} → find_block_of l.option (skip_bytes_of l bs) bs 0 (full_blocks_of t - b) (walking b at least) ≡ refused n
-        → loaded_at b at least ≡ refused n
+    pub loaded_at-none : {r : Refusal} → find_block_of l.option (skip_bytes_of l bs) bs 0 (full_blocks_of t - b) (walking b at least) ≡ Err r
+        → loaded_at b at least ≡ Err r
     unfolding loaded_at and_then
     loaded_at-none h = rw h
 
-    module _ {f : Found} (found : find_block_of l.option (skip_bytes_of l bs) bs 0 (full_blocks_of t - b) (walking b at least) ≡ ok f) where
+    module _ {f : Found} (found : find_block_of l.option (skip_bytes_of l bs) bs 0 (full_blocks_of t - b) (walking b at least) ≡ Ok f) where
       pub loaded_at-found : loaded_at b at least ≡ load_block_of t l bs f
       unfolding loaded_at and_then
       loaded_at-found = rw found
@@ -169,33 +158,33 @@ module _ (t : Term) (l : Layout) (bs : List ℕ) where
         here : loaded_at b at least ≡ asked k least docs freqs
         here = loaded_at-found ∙ (sym taken.questions ∙ ap (λ (n : ℕ). asked k n docs freqs) found-same.2)
 
-        pub stops_at-docs : {n : ℕ} → asked_docs k least docs ≡ refused n → (reading_at b at least).refusal ≡ n
+        pub stops_at-docs : {r : Refusal} → asked_docs k least docs ≡ Err r → (reading_at b at least).verdict ≡ Err r
         unfolding asked and_then
         stops_at-docs h = reading_stops (here ∙ rw h)
 
-        module _ {ds : List ℕ} (docs_right : asked_docs k least docs ≡ ok ds) where
-          pub stops_at-freqs : {n : ℕ} → asked_freqs k freqs ≡ refused n → (reading_at b at least).refusal ≡ n
+        module _ {ds : List ℕ} (docs_right : asked_docs k least docs ≡ Ok ds) where
+          pub stops_at-freqs : {r : Refusal} → asked_freqs k freqs ≡ Err r → (reading_at b at least).verdict ≡ Err r
           unfolding asked and_then
           stops_at-freqs h = reading_stops (here ∙ rw (docs_right, h))
 
-          module _ {fs : List ℕ} (freqs_right : asked_freqs k freqs ≡ ok fs) where
-            right : loaded_at b at least ≡ ok (record { docs = ds; freqs = fs; last = k.last_doc })
+          module _ {fs : List ℕ} (freqs_right : asked_freqs k freqs ≡ Ok fs) where
+            right : loaded_at b at least ≡ Ok (record { docs = ds; freqs = fs; last = k.last_doc })
             unfolding asked and_then
             right = here ∙ rw (docs_right, freqs_right)
 
             pub goes_on : {size next : ℕ} → k.full ≡ true → size ≡ block_size_of f.info → next ≡ k.last_doc + 1
-                → (reading_at b at least).refusal ≡ (reading_at (b + 1) (at + size) next).refusal
+                → (reading_at b at least).verdict ≡ (reading_at (b + 1) (at + size) next).verdict
             goes_on full sized ended =
                 let some = full-within full in
                 rw (sized, ended, taken.full_last full, found-entry some) (reading-goes-on some right)
 
-            pub ends-at-tail : k.full ≡ false → (reading_at b at least).refusal ≡ 0
+            pub ends-at-tail : k.full ≡ false → (reading_at b at least).verdict ≡ Ok tt
             ends-at-tail tail =
                 let past : full_blocks_of t ≤ b = omega (arith, found-same, ltb-false f.block (full_blocks_of t) (sym taken.is_full ∙ tail)) in
                 reading-ends past right
 
   -- ---- the whole, once the image is laid out
 
-  pub reading-whole : layout t bs ≡ ok l → reading t bs ≡ reading_at 0 l.postings 0
+  pub reading-whole : layout t bs ≡ Ok l → reading t bs ≡ reading_at 0 l.postings 0
   unfolding reading_at posting_bytes_of
   reading-whole h = rw (reading-is, h, read_all-ok, mul-zero, sub-zero)

@@ -1,14 +1,15 @@
 -- A turn of a walk block by block: a landing with target 0 from a start holds the block that the definitions read there, and the start
 -- behind it is where they read on. Where the landing is refused they read no more.
 -- Assumes nothing.
-use Rattle.std.specs.Prelude.{◌≡◌, ℕ, ◌+◌, ◌^◌, ◌<◌, ◌≤◌, min, List, length}
+use Rattle.format.specs.declared.refusal.Refusal.{Refusal}
+use Rattle.std.specs.Prelude.{◌≡◌, ℕ, ◌+◌, ◌^◌, ◌<◌, ◌≤◌, min, List, length, Ok, Err}
 use mathlib.Core.Path.{refl, sym, ap, ◌∙◌}
 use native.Mathlib.Omega.{arith}
 use Rattle.format.specs.declared.Layout.{Layout}
 use Rattle.format.specs.declared.Term.{Term}
-use Rattle.format.specs.Basics.{ok, refused, TERMINATED}
+use Rattle.format.specs.Basics.{TERMINATED}
 use Rattle.format.specs.Layout.{layout, full_blocks_of}
-use Rattle.format.specs.Reading.{Reading, before, reading}
+use Rattle.format.specs.Reading.{Reading, nothing, before, reading}
 use Rattle.segment_postings.specs.declared.find.Start.{Start}
 use Rattle.segment_postings.specs.declared.Held.{Held}
 use Rattle.segment_postings.specs.Calls.{cursor_of}
@@ -16,7 +17,7 @@ use Rattle.segment_postings.specs.Cursor.{least_after_of, start_behind_of}
 use Rattle.segment_postings.specs.Landing.{first_start_of, landing}
 use Rattle.segment_postings.specs.Private.{FindsFrom}
 use Rattle.segment_postings.proofs.layout.SplitParts.{laid_out}
-use Rattle.segment_postings.proofs.Admission.LandingReads.{BlockHeld, Stops, block_held, landing-none, reads_on}
+use Rattle.segment_postings.proofs.Admission.LandingReads.{BlockHeld, block_held, landing-none, reads_on}
 use Rattle.segment_postings.proofs.Admission.WalkReads.{walking, walking-from, reading_at, reading-whole}
 
 module _ (t : Term) (l : Layout) (bs : List ℕ) where
@@ -26,12 +27,12 @@ module _ (t : Term) (l : Layout) (bs : List ℕ) where
 
   -- a start of the walk
   pub record WalksFrom (s : Start) : Type 0 where
-    pub laid : layout t bs ≡ ok l
+    pub laid : layout t bs ≡ Ok l
     pub block_most_is : s.block ≤ full_blocks_of t
     pub inside : s.at ≤ length bs
     is_walking : s ≡ walking s.block s.at s.least
 
-  pub walks-first : {s : Start} → layout t bs ≡ ok l → s ≡ first_start_of l → WalksFrom s × (reading t bs ≡ reading_from s)
+  pub walks-first : {s : Start} → layout t bs ≡ Ok l → s ≡ first_start_of l → WalksFrom s × (reading t bs ≡ reading_from s)
   walks-first laid is = (
     record { laid = laid; block_most_is = rw is (omega arith); inside = rw is (laid_out t bs laid).inside; is_walking = rw is refl },
     rw is (reading-whole t l bs laid),
@@ -48,11 +49,11 @@ module _ (t : Term) (l : Layout) (bs : List ℕ) where
       omega (arith, few-blocks few, ap (λ (x : Start). x.unpacked) w.is_walking),
     )
 
-    pub turn-none : {n : ℕ} → landing t bs l 0 s ≡ refused n → Stops t l bs s.block s.at s.least n
+    pub turn-none : {r : Refusal} → landing t bs l 0 s ≡ Err r → reading_from s ≡ nothing (Err r)
     turn-none e = landing-none t l bs s.block s.at s.least (sym (ap (λ (x : Start). landing t bs l 0 x) w.is_walking) ∙ e)
 
     module _ {h : Held} {docs freqs : List ℕ} where
-      pub turn-held : landing t bs l 0 s ≡ ok (cursor_of h docs freqs) → BlockHeld t l bs s.block s.at s.least h docs freqs
+      pub turn-held : landing t bs l 0 s ≡ Ok (cursor_of h docs freqs) → BlockHeld t l bs s.block s.at s.least h docs freqs
       turn-held e =
           block_held t l bs s.block s.at s.least w.inside (sym (ap (λ (x : Start). landing t bs l 0 x) w.is_walking) ∙ e)
 
@@ -68,7 +69,7 @@ module _ (t : Term) (l : Layout) (bs : List ℕ) where
         pub record Turn (s' : Start) : Type 0 where
           pub block_is : s'.block ≡ s.block + 1
           pub walks : WalksFrom s'
-          pub reads : reading_from s ≡ (before (ok k.block) λ _. reading_from s')
+          pub reads : reading_from s ≡ (before (Ok k.block) λ _. reading_from s')
 
         pub turn : {s' : Start} → s' ≡ start_behind_of h → Turn s'
         turn {s'} e =

@@ -5,14 +5,12 @@
 -- The contracts say each call's outcome as `Reaches`; an outcome with its answer is `moved`. One law over every outcome, and an instance
 -- for each call. The calls by value are proved by it too: what `with_answer` makes of a call on their arrays is what they hand back.
 -- Assumes nothing.
-use Rattle.std.specs.Prelude.{◌≡◌, ℕ, ◌<◌, List}
+use Rattle.std.specs.Prelude.{◌≡◌, ℕ, ◌<◌, List, Ok, Err}
 use mathlib.Core.Path.{refl, sym}
 use Rattle.format.specs.declared.Term.{Term}
-use Rattle.format.specs.Basics.{Outcome, ok, or_before}
+use Rattle.format.specs.Basics.{Outcome, or_before}
 use Rattle.segment_postings.specs.declared.Held.{Held}
 use Rattle.segment_postings.specs.declared.Moved.{Moved}
-use Rattle.segment_postings.specs.declared.Reached.{Reached}
-use Rattle.segment_postings.specs.declared.Reached.TheVariants as reached-as
 use Rattle.segment_postings.specs.declared.SegmentPostings.{SegmentPostings}
 use Rattle.segment_postings.specs.declared.seeks.Went.{Went}
 use Rattle.segment_postings.specs.Cursor.{moved, blank, opening, opened, stepping, advanced, seeking, sought}
@@ -22,8 +20,8 @@ use Rattle.segment_postings.specs.Private.{with_answer_of}
 use Rattle.segment_postings.proofs.Laws.LandingParts.{answering-at, reached-at, reached_nowhere, moved_at, moved_nowhere, opening_near}
 use Rattle.segment_postings.proofs.Laws.ReachedBounds.{stepping_near, seeking_near}
 
-pub same-call : (t : Term) (was : SegmentPostings) {o : Outcome SegmentPostings} {docs freqs docs' freqs' : List ℕ} {r : Reached}
-    → ((c : SegmentPostings) → o ≡ ok c → c.held.place < 128) → Reaches o docs freqs docs' freqs' r → SameCall t was (moved t was o) docs freqs docs' freqs' r
+pub same-call : (t : Term) (was : SegmentPostings) {o : Outcome SegmentPostings} {docs freqs docs' freqs' : List ℕ} {r : Outcome Held}
+    → ((c : SegmentPostings) → o ≡ Ok c → c.held.place < 128) → Reaches o docs freqs docs' freqs' r → SameCall t was (moved t was o) docs freqs docs' freqs' r
 unfolding or_before
 same-call t was near k = record {
   came = λ e. let c = reached-at k e in sym (moved_at t was (near _ c) refl refl c);
@@ -31,21 +29,21 @@ same-call t was near k = record {
 }
 
 -- the numbers that it hands back are at a place of a block, where its outcome is
-pub reached_near : {o : Outcome SegmentPostings} {docs freqs docs' freqs' : List ℕ} {r : Reached}
-    → ((c : SegmentPostings) → o ≡ ok c → c.held.place < 128) → Reaches o docs freqs docs' freqs' r
-    → (held : Held) → r ≡ reached-as.At held → held.place < 128
+pub reached_near : {o : Outcome SegmentPostings} {docs freqs docs' freqs' : List ℕ} {r : Outcome Held}
+    → ((c : SegmentPostings) → o ≡ Ok c → c.held.place < 128) → Reaches o docs freqs docs' freqs' r
+    → (held : Held) → r ≡ Ok held → held.place < 128
 reached_near near k held e = near _ (reached-at k e)
 
 -- the answer and the numbers that `with_answer` gives, with the arrays, are those of the call by value
-pub with_answer_of-leaves : {t : Term} {was : Held} {m : Moved} {docs freqs docs' freqs' : List ℕ} {r : Reached} {w : Went}
-    → SameCall t (cursor_of was docs freqs) m docs freqs docs' freqs' r → ((held : Held) → r ≡ reached-as.At held → held.place < 128)
+pub with_answer_of-leaves : {t : Term} {was : Held} {m : Moved} {docs freqs docs' freqs' : List ℕ} {r : Outcome Held} {w : Went}
+    → SameCall t (cursor_of was docs freqs) m docs freqs docs' freqs' r → ((held : Held) → r ≡ Ok held → held.place < 128)
     → w ≡ with_answer_of t was docs' freqs' r → Leaves m w.answer (cursor_of w.held docs' freqs')
 unfolding with_answer_of
-with_answer_of-leaves {t} {docs' = docs'} {freqs' = freqs'} {r = reached-as.At held} s near e =
+with_answer_of-leaves {t} {docs' = docs'} {freqs' = freqs'} {r = Ok held} s near e =
     rw (e, s.came refl, answering-at t (cursor_of held docs' freqs') (near held refl)) (refl, refl)
-with_answer_of-leaves {r = reached-as.Refused n} s near e = let k = s.stayed refl in rw (e, k.0, k.1, k.2) (refl, refl)
+with_answer_of-leaves {r = Err n} s near e = let k = s.stayed refl in rw (e, k.0, k.1, k.2) (refl, refl)
 
-module _ (bs : List ℕ) (t : Term) {docs' freqs' : List ℕ} {r : Reached} where
+module _ (bs : List ℕ) (t : Term) {docs' freqs' : List ℕ} {r : Outcome Held} where
   pub open_in_calls : {docs freqs : List ℕ} → Reaches (opening bs t) docs freqs docs' freqs' r → SameCall t blank (opened bs t) docs freqs docs' freqs' r
   unfolding opened
   open_in_calls = same-call t blank (λ _. opening_near bs t)

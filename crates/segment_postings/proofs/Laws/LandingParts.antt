@@ -2,7 +2,9 @@
 -- came somewhere (`Lands`); storing two arrays of one's own just there leaves the caller's in a refusal (`stored-reached`, `left-reached`).
 -- Besides: the cases of opening, of leaving a block and of a step, and what an answer tells of its outcome.
 -- Assumes nothing.
-use Rattle.std.specs.Prelude.{◌≡◌, ℕ, ◌+◌, ◌-◌, ◌/◌, ◌<◌, ◌≤◌, Bool, true, false, eqb, leb, List, length, get_or}
+use Rattle.format.specs.declared.refusal.Refusal.{Refusal}
+use Rattle.format.specs.declared.refusal.Refusal.TheVariants.{EntryBroken, StateBroken}
+use Rattle.std.specs.Prelude.{◌≡◌, ℕ, ◌+◌, ◌-◌, ◌/◌, ◌<◌, ◌≤◌, Bool, true, false, eqb, leb, List, length, Ok, Err}
 use mathlib.Core.Path.{refl, sym, ap, subst, ◌∙◌}
 use mathlib.Core.Logic.{⊎_elim}
 use native.Mathlib.Nat.{eq-or-lt_of_le}
@@ -11,75 +13,47 @@ use native.Mathlib.Omega.{arith}
 use borrow.Author.Tests.{lt-ltb, le-ltb, le-leb, lt-leb, eqb-false}
 use Rattle.format.specs.declared.Layout.{Layout}
 use Rattle.format.specs.declared.Term.{Term}
-use Rattle.format.specs.Basics.{Outcome, ok, refused, and_then, ask, choose, TERMINATED, or_before}
-use Rattle.format.specs.Refusal.{entry_broken, state_broken}
+use Rattle.format.specs.Basics.{Outcome, and_then, ask, choose, or_before}
 use Rattle.format.specs.SkipEntry.{block_size_of}
 use Rattle.format.specs.Layout.{layout, full_blocks_of, skip_bytes_of}
 use Rattle.format.specs.Reading.{Block}
-use Rattle.format.proofs.Choice.{choose_elim}
 use Rattle.format.proofs.Outcome.{ok_same, refused≢ok, and_then-ok}
 use Rattle.segment_postings.specs.declared.find.Found.{Found}
 use Rattle.segment_postings.specs.declared.find.Start.{Start}
 use Rattle.segment_postings.specs.declared.Held.{Held}
 use Rattle.segment_postings.specs.declared.SegmentPostings.{SegmentPostings}
-use Rattle.segment_postings.specs.declared.layout.Laid.TheVariants as Laid-as
 use Rattle.segment_postings.specs.declared.load.Loaded.{Loaded}
-use Rattle.segment_postings.specs.declared.load.Loaded.TheVariants as loaded-as
-use Rattle.segment_postings.specs.declared.find.Search.TheVariants as search-as
 use Rattle.segment_postings.specs.declared.Answer.{Answer}
-use Rattle.segment_postings.specs.declared.Answer.TheVariants as answer-as
-use Rattle.segment_postings.specs.declared.Reached.{Reached}
-use Rattle.segment_postings.specs.declared.Reached.TheVariants as reached-as
 use Rattle.segment_postings.specs.Landing.{first_start_of, find_block_of, load_block_of, holding, landing}
 use Rattle.segment_postings.specs.Cursor.{position, in_bounds_of, opening, at_place, starts_inside_of, start_behind_of, leaving, stepping, answer_at_of, answering, moved}
 use Rattle.segment_postings.specs.Calls.{cursor_of, reached, Reaches}
-use Rattle.segment_postings.specs.Private.{laid, searched, counted, loaded, FindsFrom, BlockLoaded, Lands}
+use Rattle.segment_postings.specs.Private.{counted, loaded, FindsFrom, BlockLoaded, Lands}
 use Rattle.segment_postings.proofs.arrays.Question16.{Bounded, bounded}
 use Rattle.segment_postings.proofs.layout.SplitParts.{laid_out}
 use Rattle.segment_postings.proofs.Laws.CursorTurns.{landing_is, opening-is}
 
 -- ---- what an answer tells of its outcome
 
-counted_unpacked : (unpacked : ℕ) (kept : Bool) (o : Outcome Block) {n : ℕ} {k : Bool} → counted unpacked kept o ≡ loaded-as.Unpacked n k
-    → (b : Block) × (o ≡ ok b) × (n ≡ unpacked + 1)
+counted_unpacked : (unpacked : ℕ) (kept : Bool) (o : Outcome Block) {n : ℕ} {k : Bool} → counted unpacked kept o ≡ Ok (record { unpacked = n; kept = k })
+    → (b : Block) × (o ≡ Ok b) × (n ≡ unpacked + 1)
 unfolding counted
-counted_unpacked unpacked kept (ok b) e = (b, refl, cc)
-counted_unpacked unpacked kept (refused m) e = absurd (let z : ◌≡◌ {A = ℕ} 0 1 = cc in omega arith)
+counted_unpacked unpacked kept (Ok b) e = (b, refl, ap (λ (x : Loaded). x.unpacked) (sym (ok_same e)))
+counted_unpacked unpacked kept (Err m) e = absurd (let z : ◌≡◌ {A = ℕ} 0 1 = cc in omega arith)
 
-counted-refused : (unpacked : ℕ) (kept : Bool) (o : Outcome Block) {n : ℕ} → counted unpacked kept o ≡ loaded-as.Refused n → o ≡ refused n
+counted-refused : (unpacked : ℕ) (kept : Bool) (o : Outcome Block) {n : Refusal} → counted unpacked kept o ≡ Err n → o ≡ Err n
 unfolding counted
-counted-refused unpacked kept (ok b) e = absurd (let z : ◌≡◌ {A = ℕ} 0 1 = cc in omega arith)
-counted-refused unpacked kept (refused m) e = cc
+counted-refused unpacked kept (Ok b) e = absurd (let z : ◌≡◌ {A = ℕ} 0 1 = cc in omega arith)
+counted-refused unpacked kept (Err m) e = cc
 
-pub searched_to : (o : Outcome Found) {f : Found} → searched o ≡ search-as.To f → o ≡ ok f
-unfolding searched
-searched_to (ok g) e = cc
-searched_to (refused m) e = absurd (let z : ◌≡◌ {A = ℕ} 0 1 = cc in omega arith)
-
-pub searched-refused : (o : Outcome Found) {n : ℕ} → searched o ≡ search-as.Refused n → o ≡ refused n
-unfolding searched
-searched-refused (ok g) e = absurd (let z : ◌≡◌ {A = ℕ} 0 1 = cc in omega arith)
-searched-refused (refused m) e = cc
-
-pub laid-at : (o : Outcome Layout) {l : Layout} → laid o ≡ Laid-as.At l → o ≡ ok l
-unfolding laid
-laid-at (ok k) e = cc
-laid-at (refused m) e = absurd (let z : ◌≡◌ {A = ℕ} 0 1 = cc in omega arith)
-
-pub laid-refused : (o : Outcome Layout) {n : ℕ} → laid o ≡ Laid-as.Refused n → o ≡ refused n
-unfolding laid
-laid-refused (ok k) e = absurd (let z : ◌≡◌ {A = ℕ} 0 1 = cc in omega arith)
-laid-refused (refused m) e = cc
-
-pub reached-ok : (o : Outcome SegmentPostings) {h : Held} → reached o ≡ reached-as.At h → (c : SegmentPostings) × (o ≡ ok c) × (c.held ≡ h)
+pub reached-ok : (o : Outcome SegmentPostings) {h : Held} → reached o ≡ Ok h → (c : SegmentPostings) × (o ≡ Ok c) × (c.held ≡ h)
 unfolding reached
-reached-ok (ok c) e = (c, refl, cc)
-reached-ok (refused m) e = absurd (let z : ◌≡◌ {A = ℕ} 0 1 = cc in omega arith)
+reached-ok (Ok c) e = (c, refl, cc)
+reached-ok (Err m) e = absurd (let z : ◌≡◌ {A = ℕ} 0 1 = cc in omega arith)
 
-pub reached-refused : (o : Outcome SegmentPostings) {n : ℕ} → reached o ≡ reached-as.Refused n → o ≡ refused n
+pub reached-refused : (o : Outcome SegmentPostings) {n : Refusal} → reached o ≡ Err n → o ≡ Err n
 unfolding reached
-reached-refused (ok c) e = absurd (let z : ◌≡◌ {A = ℕ} 0 1 = cc in omega arith)
-reached-refused (refused m) e = cc
+reached-refused (Ok c) e = absurd (let z : ◌≡◌ {A = ℕ} 0 1 = cc in omega arith)
+reached-refused (Err m) e = cc
 
 -- ---- a block that was found, unpacked
 
@@ -95,16 +69,16 @@ first f size unpacked = record {
 }
 
 -- arrays that a caller may lose
-pub lands_as : {o o' : Outcome SegmentPostings} {docs freqs : List ℕ} {r : Reached} → o ≡ o' → Lands o' docs freqs r → Lands o docs freqs r
+pub lands_as : {o o' : Outcome SegmentPostings} {docs freqs : List ℕ} {r : Outcome Held} → o ≡ o' → Lands o' docs freqs r → Lands o docs freqs r
 lands_as {docs = docs} {freqs = freqs} {r = r} e h = subst (λ (o : Outcome SegmentPostings). Lands o docs freqs r) (sym e) h
 
-pub none-lands : {o : Outcome SegmentPostings} {n : ℕ} (docs freqs : List ℕ) → o ≡ refused n → Lands o docs freqs (reached-as.Refused n)
+pub none-lands : {o : Outcome SegmentPostings} {n : Refusal} (docs freqs : List ℕ) → o ≡ Err n → Lands o docs freqs (Err n)
 unfolding reached
 none-lands docs freqs e =
     lands_as e (record { answer = refl; docs_are = λ c no. absurd (refused≢ok no); freqs_are = λ c no. absurd (refused≢ok no) })
 
-one-lands : {o : Outcome SegmentPostings} (c : SegmentPostings) {docs freqs : List ℕ} → o ≡ ok c → docs ≡ c.docs → freqs ≡ c.freqs
-    → Lands o docs freqs (reached-as.At c.held)
+one-lands : {o : Outcome SegmentPostings} (c : SegmentPostings) {docs freqs : List ℕ} → o ≡ Ok c → docs ≡ c.docs → freqs ≡ c.freqs
+    → Lands o docs freqs (Ok c.held)
 unfolding reached
 one-lands c e d f =
     lands_as e
@@ -120,53 +94,53 @@ unfolding holding first
 first-is f unpacked block s e = rw (s, e)
 
 module _ (t : Term) (l : Layout) (bs : List ℕ) (f : Found) (unpacked : ℕ) where
-  loaded-ok : {b : Block} → load_block_of t l bs f ≡ ok b → loaded t l bs f unpacked ≡ ok (holding f unpacked b)
+  loaded-ok : {b : Block} → load_block_of t l bs f ≡ Ok b → loaded t l bs f unpacked ≡ Ok (holding f unpacked b)
   unfolding loaded and_then
   loaded-ok e = rw e
 
-  loaded-refused : {n : ℕ} → load_block_of t l bs f ≡ refused n → loaded t l bs f unpacked ≡ refused n
+  loaded-refused : {n : Refusal} → load_block_of t l bs f ≡ Err n → loaded t l bs f unpacked ≡ Err n
   unfolding loaded and_then
   loaded-refused e = rw e
 
-module _ {t : Term} {l : Layout} {bs : List ℕ} {f : Found} {unpacked : ℕ} {docs freqs : List ℕ} {r : Loaded} where
-  pub unpacked_there : BlockLoaded t l bs f unpacked docs freqs r → {n size : ℕ} {kept : Bool} → r ≡ loaded-as.Unpacked n kept → size ≡ block_size_of f.info
-      → Lands (loaded t l bs f unpacked) docs freqs (reached-as.At (first f size n))
+module _ {t : Term} {l : Layout} {bs : List ℕ} {f : Found} {unpacked : ℕ} {docs freqs : List ℕ} {r : Outcome Loaded} where
+  pub unpacked_there : BlockLoaded t l bs f unpacked docs freqs r → {n size : ℕ} {kept : Bool} → r ≡ Ok (record { unpacked = n; kept = kept }) → size ≡ block_size_of f.info
+      → Lands (loaded t l bs f unpacked) docs freqs (Ok (first f size n))
   unfolding holding
   unpacked_there b e s =
       let o = counted_unpacked unpacked _ (load_block_of t l bs f) (sym b.answer ∙ e) in
-      subst (λ (h : Held). Lands (loaded t l bs f unpacked) docs freqs (reached-as.At h)) (first-is f unpacked o.0 s o.2)
+      subst (λ (h : Held). Lands (loaded t l bs f unpacked) docs freqs (Ok h)) (first-is f unpacked o.0 s o.2)
       (one-lands (holding f unpacked o.0) (loaded-ok t l bs f unpacked o.1) (b.docs_are o.0 o.1) (b.freqs_are o.0 o.1))
 
-  pub unpacked_refused : BlockLoaded t l bs f unpacked docs freqs r → {n : ℕ} → r ≡ loaded-as.Refused n
-      → Lands (loaded t l bs f unpacked) docs freqs (reached-as.Refused n)
+  pub unpacked_refused : BlockLoaded t l bs f unpacked docs freqs r → {n : Refusal} → r ≡ Err n
+      → Lands (loaded t l bs f unpacked) docs freqs (Err n)
   unpacked_refused b e = none-lands docs freqs (loaded-refused t l bs f unpacked (counted-refused unpacked _ (load_block_of t l bs f) (sym b.answer ∙ e)))
 
 -- ---- the two in a row
 
-pub reaches_as : {o o' : Outcome SegmentPostings} {docs freqs docs' freqs' : List ℕ} {r : Reached}
+pub reaches_as : {o o' : Outcome SegmentPostings} {docs freqs docs' freqs' : List ℕ} {r : Outcome Held}
     → o ≡ o' → Reaches o' docs freqs docs' freqs' r → Reaches o docs freqs docs' freqs' r
 reaches_as {docs = docs} {freqs = freqs} {docs' = docs'} {freqs' = freqs'} {r = r} e h =
     subst (λ (o : Outcome SegmentPostings). Reaches o docs freqs docs' freqs' r) (sym e) h
 
-pub none-reached : {o : Outcome SegmentPostings} {n : ℕ} (docs freqs : List ℕ) → o ≡ refused n → Reaches o docs freqs docs freqs (reached-as.Refused n)
+pub none-reached : {o : Outcome SegmentPostings} {n : Refusal} (docs freqs : List ℕ) → o ≡ Err n → Reaches o docs freqs docs freqs (Err n)
 unfolding reached or_before
 none-reached docs freqs e = reaches_as e (record { answer = refl; docs_after = refl; freqs_after = refl })
 
 module _ (t : Term) (bs : List ℕ) (l : Layout) (target : ℕ) (s : Start) where
-  pub landing-found : {f : Found} → find_block_of l.option (skip_bytes_of l bs) bs target (full_blocks_of t - s.block) s ≡ ok f
+  pub landing-found : {f : Found} → find_block_of l.option (skip_bytes_of l bs) bs target (full_blocks_of t - s.block) s ≡ Ok f
       → landing t bs l target s ≡ loaded t l bs f s.unpacked
   unfolding landing loaded and_then
   landing-found e = rw e
 
-  pub landing-refused : {n : ℕ} → find_block_of l.option (skip_bytes_of l bs) bs target (full_blocks_of t - s.block) s ≡ refused n
-      → landing t bs l target s ≡ refused n
+  pub landing-refused : {n : Refusal} → find_block_of l.option (skip_bytes_of l bs) bs target (full_blocks_of t - s.block) s ≡ Err n
+      → landing t bs l target s ≡ Err n
   unfolding landing and_then
   landing-refused e = rw e
 
 -- ---- calls that hold the arrays as they are
 
-pub held-reached : {o : Outcome SegmentPostings} (h : Held) (docs freqs : List ℕ) → o ≡ ok (cursor_of h docs freqs)
-    → Reaches o docs freqs docs freqs (reached-as.At h)
+pub held-reached : {o : Outcome SegmentPostings} (h : Held) (docs freqs : List ℕ) → o ≡ Ok (cursor_of h docs freqs)
+    → Reaches o docs freqs docs freqs (Ok h)
 unfolding reached or_before
 held-reached h docs freqs e = reaches_as e (record { answer = refl; docs_after = refl; freqs_after = refl })
 
@@ -188,33 +162,33 @@ starts-behind t l b at h = elim (dec_le (full_blocks_of t) b) [
 ]
 
 module _ (bs : List ℕ) (t : Term) where
-  pub opening-laid : {l : Layout} → layout t bs ≡ ok l → opening bs t ≡ landing t bs l 0 (first_start_of l)
+  pub opening-laid : {l : Layout} → layout t bs ≡ Ok l → opening bs t ≡ landing t bs l 0 (first_start_of l)
   unfolding opening and_then
   opening-laid e = rw e
 
-  pub opening-refused : {n : ℕ} → layout t bs ≡ refused n → opening bs t ≡ refused n
+  pub opening-refused : {n : Refusal} → layout t bs ≡ Err n → opening bs t ≡ Err n
   unfolding opening and_then
   opening-refused e = rw e
 
-  pub opens-from : {l : Layout} → layout t bs ≡ ok l → FindsFrom t l bs (first_start_of l)
+  pub opens-from : {l : Layout} → layout t bs ≡ Ok l → FindsFrom t l bs (first_start_of l)
   opens-from e = record { laid_out = e; block_most_is = omega arith; inside = (laid_out t bs e).inside; entries_most = omega arith }
 
 module _ (h : Held) (bs : List ℕ) (t : Term) where
-  pub leaving-laid : (target : ℕ) {l : Layout} → layout t bs ≡ ok l → starts_inside_of t l (h.block + 1) h.next ≡ true
+  pub leaving-laid : (target : ℕ) {l : Layout} → layout t bs ≡ Ok l → starts_inside_of t l (h.block + 1) h.next ≡ true
       → leaving h bs t target ≡ landing t bs l target (start_behind_of h)
   unfolding leaving and_then ask
   leaving-laid target e inside = rw (e, inside)
 
-  pub leaving_early : (target : ℕ) {l : Layout} → layout t bs ≡ ok l → starts_inside_of t l (h.block + 1) h.next ≡ false
-      → leaving h bs t target ≡ refused entry_broken
+  pub leaving_early : (target : ℕ) {l : Layout} → layout t bs ≡ Ok l → starts_inside_of t l (h.block + 1) h.next ≡ false
+      → leaving h bs t target ≡ Err EntryBroken
   unfolding leaving and_then ask
   leaving_early target e early = rw (e, early)
 
-  pub leaving-refused : (target : ℕ) {n : ℕ} → layout t bs ≡ refused n → leaving h bs t target ≡ refused n
+  pub leaving-refused : (target : ℕ) {n : Refusal} → layout t bs ≡ Err n → leaving h bs t target ≡ Err n
   unfolding leaving and_then
   leaving-refused target e = rw e
 
-  pub leaves-from : {l : Layout} → Bounded t (length bs) h → h.block < t.count / 128 → layout t bs ≡ ok l → FindsFrom t l bs (start_behind_of h)
+  pub leaves-from : {l : Layout} → Bounded t (length bs) h → h.block < t.count / 128 → layout t bs ≡ Ok l → FindsFrom t l bs (start_behind_of h)
   unfolding full_blocks_of
   leaves-from b full e = record { laid_out = e; block_most_is = omega arith; inside = b.next_inside; entries_most = b.entries_behind }
 
@@ -229,17 +203,17 @@ leaves-full h size t in_bounds before last =
     ⊎_elim (λ e. absurd (eqb-false _ _ before e)) (λ l. omega (arith, b.place_below)) (eq-or-lt_of_le b.position_most)
 
 module _ (c : SegmentPostings) (bs : List ℕ) (t : Term) where
-  pub stepping_broken : in_bounds_of t (length bs) c.held ≡ false → stepping c bs t ≡ refused state_broken
+  pub stepping_broken : in_bounds_of t (length bs) c.held ≡ false → stepping c bs t ≡ Err StateBroken
   unfolding stepping ask
   stepping_broken e = rw e
 
   module _ (in_bounds : in_bounds_of t (length bs) c.held ≡ true) where
-    pub stepping-ended : eqb (position c.held) t.count ≡ true → stepping c bs t ≡ ok c
+    pub stepping-ended : eqb (position c.held) t.count ≡ true → stepping c bs t ≡ Ok c
     unfolding stepping ask choose
     stepping-ended e = rw (in_bounds, e)
 
     module _ (before : eqb (position c.held) t.count ≡ false) where
-      pub stepping-within : c.held.place + 1 < 128 → stepping c bs t ≡ ok (at_place c (c.held.place + 1))
+      pub stepping-within : c.held.place + 1 < 128 → stepping c bs t ≡ Ok (at_place c (c.held.place + 1))
       unfolding stepping ask choose
       stepping-within h = rw (in_bounds, before, lt-ltb _ _ h)
 
@@ -252,78 +226,68 @@ module _ (c : SegmentPostings) (bs : List ℕ) (t : Term) where
 cursor-is : (c : SegmentPostings) {h : Held} {docs freqs : List ℕ} → docs ≡ c.docs → freqs ≡ c.freqs → c.held ≡ h → c ≡ cursor_of h docs freqs
 cursor-is c d f e = rw (d, f, ← e)
 
-pub landed_at : {o : Outcome SegmentPostings} {docs freqs : List ℕ} {r : Reached} {h : Held}
-    → Lands o docs freqs r → r ≡ reached-as.At h → o ≡ ok (cursor_of h docs freqs)
+pub landed_at : {o : Outcome SegmentPostings} {docs freqs : List ℕ} {r : Outcome Held} {h : Held}
+    → Lands o docs freqs r → r ≡ Ok h → o ≡ Ok (cursor_of h docs freqs)
 landed_at {o} k e =
     let c = reached-ok o (sym k.answer ∙ e) in
-    c.1 ∙ ap ok (cursor-is c.0 (k.docs_are c.0 c.1) (k.freqs_are c.0 c.1) c.2)
+    c.1 ∙ ap Ok (cursor-is c.0 (k.docs_are c.0 c.1) (k.freqs_are c.0 c.1) c.2)
 
-pub landed_nowhere : {o : Outcome SegmentPostings} {docs freqs : List ℕ} {r : Reached} {n : ℕ} → Lands o docs freqs r → r ≡ reached-as.Refused n → o ≡ refused n
+pub landed_nowhere : {o : Outcome SegmentPostings} {docs freqs : List ℕ} {r : Outcome Held} {n : Refusal} → Lands o docs freqs r → r ≡ Err n → o ≡ Err n
 landed_nowhere {o} k e = reached-refused o (sym k.answer ∙ e)
 
 -- a call that leaves its arrays in a refusal tells no less than one that may lose them
-reaches-lands : {o : Outcome SegmentPostings} {docs freqs docs' freqs' : List ℕ} {r : Reached} → Reaches o docs freqs docs' freqs' r → Lands o docs' freqs' r
+reaches-lands : {o : Outcome SegmentPostings} {docs freqs docs' freqs' : List ℕ} {r : Outcome Held} → Reaches o docs freqs docs' freqs' r → Lands o docs' freqs' r
 unfolding or_before
 reaches-lands k = record { answer = k.answer; docs_are = λ c e. rw e at k.docs_after; freqs_are = λ c e. rw e at k.freqs_after }
 
-pub reached-at : {o : Outcome SegmentPostings} {docs freqs docs' freqs' : List ℕ} {r : Reached} {h : Held}
-    → Reaches o docs freqs docs' freqs' r → r ≡ reached-as.At h → o ≡ ok (cursor_of h docs' freqs')
+pub reached-at : {o : Outcome SegmentPostings} {docs freqs docs' freqs' : List ℕ} {r : Outcome Held} {h : Held}
+    → Reaches o docs freqs docs' freqs' r → r ≡ Ok h → o ≡ Ok (cursor_of h docs' freqs')
 reached-at k = landed_at (reaches-lands k)
 
-pub reached_nowhere : {o : Outcome SegmentPostings} {docs freqs docs' freqs' : List ℕ} {r : Reached} {n : ℕ}
-    → Reaches o docs freqs docs' freqs' r → r ≡ reached-as.Refused n → o ≡ refused n
+pub reached_nowhere : {o : Outcome SegmentPostings} {docs freqs docs' freqs' : List ℕ} {r : Outcome Held} {n : Refusal}
+    → Reaches o docs freqs docs' freqs' r → r ≡ Err n → o ≡ Err n
 reached_nowhere k = landed_nowhere (reaches-lands k)
 
 -- two arrays of one's own are stored where a call on them came somewhere, so that a refusal leaves those that are lent
-pub stored-reached : {o : Outcome SegmentPostings} {docs freqs ids counts : List ℕ} {r : Reached} {h : Held} → Lands o ids counts r → r ≡ reached-as.At h
+pub stored-reached : {o : Outcome SegmentPostings} {docs freqs ids counts : List ℕ} {r : Outcome Held} {h : Held} → Lands o ids counts r → r ≡ Ok h
     → Reaches o docs freqs ids counts r
 unfolding or_before
 stored-reached k e = let at = landed_at k e in record { answer = k.answer; docs_after = rw at; freqs_after = rw at }
 
-pub left-reached : {o : Outcome SegmentPostings} {docs freqs ids counts : List ℕ} {r : Reached} {n : ℕ} → Lands o ids counts r → r ≡ reached-as.Refused n
+pub left-reached : {o : Outcome SegmentPostings} {docs freqs ids counts : List ℕ} {r : Outcome Held} {n : Refusal} → Lands o ids counts r → r ≡ Err n
     → Reaches o docs freqs docs freqs r
 unfolding or_before
 left-reached k e = let no = landed_nowhere k e in record { answer = k.answer; docs_after = rw no; freqs_after = rw no }
 
 -- the answer at a place of a block
-pub answering-at : (t : Term) (c : SegmentPostings) → c.held.place < 128 → answering t c ≡ answer_at_of t c
-unfolding answering choose
+pub answering-at : (t : Term) (c : SegmentPostings) → c.held.place < 128 → answering t c ≡ Ok (answer_at_of t c)
+unfolding answering ask
 answering-at t c below = rw (lt-ltb _ _ below)
 
-pub answering_nowhere : (t : Term) (c : SegmentPostings) → 128 ≤ c.held.place → answering t c ≡ answer-as.Refused state_broken
-unfolding answering choose
+pub answering_nowhere : (t : Term) (c : SegmentPostings) → 128 ≤ c.held.place → answering t c ≡ Err StateBroken
+unfolding answering ask
 answering_nowhere t c above = rw (le-ltb _ _ above)
 
--- .. is no refusal
-pub answer_at_of-at : (t : Term) (c : SegmentPostings) {n : ℕ} → answer_at_of t c ≡ answer-as.Refused n → ⊥
-unfolding answer_at_of
-answer_at_of-at t c {n} =
-    choose_elim (λ (a : Answer). a ≡ answer-as.Refused n → ⊥) (eqb (position c.held) t.count)
-    (λ _. answer-as.At TERMINATED 0 c.held.unpacked c.held.entries)
-    (λ _. answer-as.At (get_or c.docs c.held.place 0) (get_or c.freqs c.held.place 0) c.held.unpacked c.held.entries)
-    (λ _ k. let z : ◌≡◌ {A = ℕ} 0 1 = cc in omega arith)
-    (λ _ k. let z : ◌≡◌ {A = ℕ} 0 1 = cc in omega arith)
-
 -- an answer with its cursor
-pub moved_at : (t : Term) (before : SegmentPostings) {o : Outcome SegmentPostings} {a : Answer} {c m : SegmentPostings}
-    → c.held.place < 128 → a ≡ answering t c → m ≡ c → o ≡ ok c → record { answer = a; cursor = m } ≡ moved t before o
+pub moved_at : (t : Term) (before : SegmentPostings) {o : Outcome SegmentPostings} {a : Outcome Answer} {c m : SegmentPostings}
+    → c.held.place < 128 → a ≡ answering t c → m ≡ c → o ≡ Ok c → record { answer = a; cursor = m } ≡ moved t before o
 unfolding moved
 moved_at t before {c = c} below answers same e = rw (e, answers, answering-at t c below, same)
 
-pub moved_nowhere : (t : Term) (before : SegmentPostings) {o : Outcome SegmentPostings} {docs freqs docs' freqs' : List ℕ} {r : Reached} {n : ℕ}
-    → Reaches o docs freqs docs' freqs' r → r ≡ reached-as.Refused n
-    → moved t before o ≡ record { answer = answer-as.Refused n; cursor = before }
+pub moved_nowhere : (t : Term) (before : SegmentPostings) {o : Outcome SegmentPostings} {docs freqs docs' freqs' : List ℕ} {r : Outcome Held} {n : Refusal}
+    → Reaches o docs freqs docs' freqs' r → r ≡ Err n
+    → moved t before o ≡ record { answer = Err n; cursor = before }
 unfolding moved
 moved_nowhere t before k e = rw (reached_nowhere k e)
 
 -- a landing is at its block's first place
 pub landing-first : (t : Term) (bs : List ℕ) (l : Layout) (target : ℕ) (s : Start) {c : SegmentPostings}
-    → landing t bs l target s ≡ ok c → c.held.place ≡ 0
+    → landing t bs l target s ≡ Ok c → c.held.place ≡ 0
 unfolding holding
 landing-first t bs l target s e =
     let found = and_then-ok _ _ (sym (landing_is t bs l target s) ∙ e) in
     let loads = and_then-ok _ _ found.2 in
     ap (λ (c : SegmentPostings). c.held.place) (sym (ok_same loads.2))
 
-pub opening_near : (bs : List ℕ) (t : Term) {c : SegmentPostings} → opening bs t ≡ ok c → c.held.place < 128
+pub opening_near : (bs : List ℕ) (t : Term) {c : SegmentPostings} → opening bs t ≡ Ok c → c.held.place < 128
 opening_near bs t e = omega (arith, landing-first _ _ _ _ _ (and_then-ok _ _ (sym (opening-is bs t) ∙ e)).2)

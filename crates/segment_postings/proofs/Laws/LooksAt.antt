@@ -3,7 +3,7 @@
 -- bytes are: those passed over and those behind aren't looked at. So a bad block is refused only once it is landed on.
 -- The search for a block takes the image for its length alone; the block found is then read of its own bytes (format's LooksAt).
 -- Assumes nothing.
-use Rattle.std.specs.Prelude.{◌≡◌, ℕ, zero, suc, ◌-◌, ◌*◌, ◌/◌, ◌<◌, ◌≤◌, Bool, true, false, ◌&&◌ as and, eqb, ltb, List, length, take, drop}
+use Rattle.std.specs.Prelude.{◌≡◌, ℕ, zero, suc, ◌-◌, ◌*◌, ◌/◌, ◌<◌, ◌≤◌, Bool, true, false, ◌&&◌ as and, eqb, ltb, List, length, take, drop, Ok, Err}
 use mathlib.Core.Path.{refl, sym, ◌∙◌}
 use Prim.Native.Nat.{zero-le}
 use native.Mathlib.Nat.{mul-zero, add-sub_cancel_left}
@@ -12,7 +12,7 @@ use borrow.Author.Tests.{le-leb, lt-ltb}
 use Rattle.format.specs.declared.IndexRecordOption.{IndexRecordOption}
 use Rattle.format.specs.declared.Layout.{Layout}
 use Rattle.format.specs.declared.Term.{Term}
-use Rattle.format.specs.Basics.{Outcome, ok, refused, and_then, choose}
+use Rattle.format.specs.Basics.{Outcome, and_then, choose}
 use Rattle.format.specs.SkipEntry.{has_freq_of, entry_size_of, read_entry, block_size_of}
 use Rattle.format.specs.Layout.{layout, full_blocks_of, tail_length, skip_bytes_of}
 use Rattle.format.specs.Reading.{full_block, tail_block}
@@ -30,10 +30,10 @@ use Rattle.segment_postings.proofs.Laws.CursorTurns.{leaving-is, stepping-is, ad
 
 -- ---- a landing
 
-then_same : {A B : Type 0} (o : Outcome A) (go go' : A → Outcome B) → ((a : A) → o ≡ ok a → go a ≡ go' a) → and_then o go ≡ and_then o go'
+then_same : {A B : Type 0} (o : Outcome A) (go go' : A → Outcome B) → ((a : A) → o ≡ Ok a → go a ≡ go' a) → and_then o go ≡ and_then o go'
 unfolding and_then
-then_same (ok a) go go' h = h a refl
-then_same (refused n) go go' h = refl
+then_same (Ok a) go go' h = h a refl
+then_same (Err n) go go' h = refl
 
 same_find : (option : IndexRecordOption) (skips bs bs' : List ℕ) (target n : ℕ) (s : Start) → length bs ≡ length bs'
     → find_block_of option skips bs target n s ≡ find_block_of option skips bs' target n s
@@ -60,7 +60,7 @@ module _ (t : Term) (l : Layout) (bs bs' : List ℕ) where
   same_load f same = load_block_of-is t l bs f ∙ read_same _ f same ∙ sym (load_block_of-is t l bs' f)
 
   pub landing_looks_at : (target : ℕ) (from : Start) → SameFront l bs bs'
-      → ((f : Found) → find_block_of l.option (skip_bytes_of l bs) bs target (full_blocks_of t - from.block) from ≡ ok f
+      → ((f : Found) → find_block_of l.option (skip_bytes_of l bs) bs target (full_blocks_of t - from.block) from ≡ Ok f
       → bytes_of t f bs ≡ bytes_of t f bs')
       → landing t bs l target from ≡ landing t bs' l target from
   landing_looks_at target from s h =
@@ -74,7 +74,7 @@ pub same_bounds : (h : Held) (t : Term) (bs bs' : List ℕ) → length bs ≡ le
 unfolding in_bounds_of
 same_bounds h t bs bs' long = rw long
 
-module _ (t : Term) (l : Layout) (bs bs' : List ℕ) (laid : layout t bs ≡ ok l) (s : SameFront l bs bs') where
+module _ (t : Term) (l : Layout) (bs bs' : List ℕ) (laid : layout t bs ≡ Ok l) (s : SameFront l bs bs') where
   -- a cursor that leaves its block
   pub lands-on-one : (h : Held) (target : ℕ) → SameThere h t l bs bs' target → leaving h bs t target ≡ leaving h bs' t target
   unfolding and_then
@@ -99,7 +99,7 @@ module _ (t : Term) (l : Layout) (bs bs' : List ℕ) (laid : layout t bs ≡ ok 
 
 -- the first search ends at entry 0, if that passes question 5
 found_first : (option : IndexRecordOption) (skips bs : List ℕ) (n at : ℕ) {f : Found}
-    → find_block_of option skips bs 0 (suc n) (record { block = 0; at = at; least = 0; entries = 0; unpacked = 0 }) ≡ ok f
+    → find_block_of option skips bs 0 (suc n) (record { block = 0; at = at; least = 0; entries = 0; unpacked = 0 }) ≡ Ok f
     → record { block = 0; at = at; least = 0; info = read_entry option skips; entries = 1 } ≡ f
 unfolding choose
 found_first option skips bs n at e =
@@ -107,9 +107,9 @@ found_first option skips bs n at e =
     ok_same (rw (le-leb 0 (read_entry option skips).last_doc zero-le) at asked.1)
 
 -- where there is a full block opening looks at the first alone: nothing behind it is refused, or changes the answer
-module _ (t : Term) (l : Layout) (bs bs' : List ℕ) (laid : layout t bs ≡ ok l) (full : 128 ≤ t.count) (long : length bs ≡ length bs') where
+module _ (t : Term) (l : Layout) (bs bs' : List ℕ) (laid : layout t bs ≡ Ok l) (full : 128 ≤ t.count) (long : length bs ≡ length bs') where
   same_first : take (first_end l bs) bs ≡ take (first_end l bs) bs' → (f : Found)
-      → find_block_of l.option (skip_bytes_of l bs) bs 0 (full_blocks_of t - 0) (first_start_of l) ≡ ok f → bytes_of t f bs ≡ bytes_of t f bs'
+      → find_block_of l.option (skip_bytes_of l bs) bs 0 (full_blocks_of t - 0) (first_start_of l) ≡ Ok f → bytes_of t f bs ≡ bytes_of t f bs'
   unfolding choose full_blocks_of
   same_first same f e =
       let some : 0 < t.count / 128 = omega arith in

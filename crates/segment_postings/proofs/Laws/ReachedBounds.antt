@@ -3,14 +3,14 @@
 -- place of the held block that was tested, or lands on a block, in which the search answers a place (SearchOnLanding.antt). So does a fresh
 -- cursor's.
 -- Assumes nothing.
-use Rattle.std.specs.Prelude.{◌≡◌, ℕ, ◌+◌, ◌*◌, ◌<◌, ◌≤◌, List, length}
+use Rattle.std.specs.Prelude.{◌≡◌, ℕ, ◌+◌, ◌*◌, ◌<◌, ◌≤◌, List, length, Ok}
 use mathlib.Core.Logic.{⊎_elim}
 use mathlib.Core.Path.{sym, subst, ◌∙◌}
 use native.Mathlib.Nat.{eq-or-lt_of_le}
 use native.Mathlib.Omega.{arith}
 use borrow.Author.Tests.{leb-true, ltb-true, ltb-false, eqb-false}
 use Rattle.format.specs.declared.Term.{Term}
-use Rattle.format.specs.Basics.{Outcome, ok, TERMINATED}
+use Rattle.format.specs.Basics.{Outcome, TERMINATED}
 use Rattle.format.specs.Layout.{full_blocks_of}
 use Rattle.format.proofs.Choice.{choose_elim}
 use Rattle.format.proofs.Outcome.{ok_same, ask-ok, and_then-ok}
@@ -26,24 +26,24 @@ abbrev pub Near : Term → SegmentPostings → Type 0
 Near t d = (d.held.place < 128) × (128 * d.held.block + d.held.place ≤ t.count)
 
 module _ (c : SegmentPostings) (bs : List ℕ) (t : Term) where
-  stays_near : {d : SegmentPostings} → Bounded t (length bs) c.held → ok c ≡ ok d → Near t d
+  stays_near : {d : SegmentPostings} → Bounded t (length bs) c.held → ◌≡◌ {A = Outcome SegmentPostings} (Ok c) (Ok d) → Near t d
   stays_near b e = subst (Near t) (ok_same e) (b.place_below, b.position_most)
 
   -- ---- a step
 
-  leaving_near : {d : SegmentPostings} → c.held.block < full_blocks_of t → leaving c.held bs t 0 ≡ ok d → Near t d
+  leaving_near : {d : SegmentPostings} → c.held.block < full_blocks_of t → leaving c.held bs t 0 ≡ Ok d → Near t d
   leaving_near full e =
       let laid = and_then-ok _ _ (sym (leaving-is c.held bs t 0) ∙ e) in
       let first = landing-first _ _ _ _ _ (ask-ok _ _ _ laid.2).1 in
       let placed = leaving-placed c.held bs t 0 (omega arith) full e in
       (omega arith, omega (arith, placed.position_most))
 
-  pub stepping_near : {d : SegmentPostings} → stepping c bs t ≡ ok d → Near t d
+  pub stepping_near : {d : SegmentPostings} → stepping c bs t ≡ Ok d → Near t d
   unfolding position at_place full_blocks_of
   stepping_near {d} e =
       let asked = ask-ok _ _ _ (sym (stepping-is c bs t) ∙ e) in
       let in_bounds = bounded t (length bs) c.held asked.0 in
-      let goal : Outcome SegmentPostings → Type 0 = λ o. o ≡ ok d → Near t d in
+      let goal : Outcome SegmentPostings → Type 0 = λ o. o ≡ Ok d → Near t d in
       choose_elim goal _ _ _ (λ _. stays_near in_bounds)
       (λ before. choose_elim goal _ _ _
       (λ below k. subst (Near t) (ok_same k) (
@@ -56,14 +56,14 @@ module _ (c : SegmentPostings) (bs : List ℕ) (t : Term) where
   -- ---- a seek
 
   module _ (target : ℕ) where
-    within_near : {d : SegmentPostings} → within c t target ≡ ok d → Near t d
+    within_near : {d : SegmentPostings} → within c t target ≡ Ok d → Near t d
     unfolding at_place
     within_near e =
         let asked = ask-ok _ _ _ (sym (within-is c t target) ∙ e) in
         let there = tested c t target asked.0 in
         subst (Near t) (ok_same asked.1) (there.inside, there.counted)
 
-    behind_near : {d : SegmentPostings} → target ≤ TERMINATED → behind c bs t target ≡ ok d → Near t d
+    behind_near : {d : SegmentPostings} → target ≤ TERMINATED → behind c bs t target ≡ Ok d → Near t d
     unfolding at_place
     behind_near small e =
         let asked = ask-ok _ _ _ (sym (behind-is c bs t target) ∙ e) in
@@ -71,11 +71,11 @@ module _ (c : SegmentPostings) (bs : List ℕ) (t : Term) where
         let placed = leaving-placed c.held bs t target small (ltb-true _ _ asked.0) left.1 in
         subst (Near t) (ok_same left.2) (placed.place_below, placed.position_most)
 
-    pub seeking_near : {d : SegmentPostings} → seeking c bs t target ≡ ok d → Near t d
+    pub seeking_near : {d : SegmentPostings} → seeking c bs t target ≡ Ok d → Near t d
     seeking_near {d} e =
         let asked = ask-ok _ _ _ (sym (seeking-is c bs t target) ∙ e) in
-        let goal : Outcome SegmentPostings → Type 0 = λ o. o ≡ ok d → Near t d in
-        let stays : goal (ok c) = stays_near (bounded t (length bs) c.held asked.0) in
+        let goal : Outcome SegmentPostings → Type 0 = λ o. o ≡ Ok d → Near t d in
+        let stays : goal (Ok c) = stays_near (bounded t (length bs) c.held asked.0) in
         choose_elim goal _ _ _ (λ _. stays)
         (λ _ k.
         let small = ask-ok _ _ _ k in
@@ -86,5 +86,5 @@ module _ (c : SegmentPostings) (bs : List ℕ) (t : Term) where
 
 -- ---- a fresh cursor's seek
 
-pub fresh_near : (bs : List ℕ) (t : Term) (target : ℕ) {d : SegmentPostings} → seeking_fresh bs t target ≡ ok d → Near t d
+pub fresh_near : (bs : List ℕ) (t : Term) (target : ℕ) {d : SegmentPostings} → seeking_fresh bs t target ≡ Ok d → Near t d
 fresh_near bs t target e = seeking_near _ bs t target (and_then-ok _ _ (sym (seeking_fresh-is bs t target) ∙ e)).2

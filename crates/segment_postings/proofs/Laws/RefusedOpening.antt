@@ -1,11 +1,11 @@
 -- A refused opening leaves a cursor that every call refuses (16), whatever the image and its term: it is at no place.
 -- Assumes nothing.
-use Rattle.std.specs.Prelude.{◌≡◌, ℕ, ◌<◌, false, List, length}
+use Rattle.format.specs.declared.refusal.Refusal.TheVariants.{StateBroken}
+use Rattle.std.specs.Prelude.{◌≡◌, ℕ, ◌<◌, false, List, length, Err}
 use mathlib.Core.Path.{sym}
 use native.Mathlib.Omega.{arith}
 use Rattle.format.specs.declared.Term.{Term}
-use Rattle.format.specs.Basics.{refused, ask}
-use Rattle.format.specs.Refusal.{state_broken}
+use Rattle.format.specs.Basics.{ask}
 use Rattle.segment_postings.specs.Cursor.{in_bounds_of, blank, stepping, seeking, value_at}
 use Rattle.segment_postings.proofs.arrays.Question16.{Bounded, out-of_bounds}
 use Rattle.segment_postings.proofs.Laws.CursorTurns.{stepping-is, seeking-is}
@@ -18,14 +18,14 @@ module _ (bs : List ℕ) (t : Term) where
   blank_outside : in_bounds_of t (length bs) blank.held ≡ false
   blank_outside = sym (out-of_bounds t (length bs) blank.held (λ b. omega (arith, at_none b)))
 
-  pub unopened_stepping : stepping blank bs t ≡ refused state_broken
+  pub unopened_stepping : stepping blank bs t ≡ Err StateBroken
   unfolding ask
   unopened_stepping = rw (stepping-is, blank_outside)
 
-  pub unopened_seeking : (target : ℕ) → seeking blank bs t target ≡ refused state_broken
+  pub unopened_seeking : (target : ℕ) → seeking blank bs t target ≡ Err StateBroken
   unfolding ask
   unopened_seeking target = rw (seeking-is, blank_outside)
 
-  pub unopened_value : (values : List ℕ) (end : ℕ) → value_at values end blank.held bs t ≡ refused state_broken
+  pub unopened_value : (values : List ℕ) (end : ℕ) → value_at values end blank.held bs t ≡ Err StateBroken
   unfolding value_at ask
   unopened_value values end = rw blank_outside

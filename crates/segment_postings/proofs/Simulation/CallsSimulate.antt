@@ -6,7 +6,9 @@
 -- The argument: a step and a seek up to TERMINATED leave cursor and model together (StepSimulates.antt, SeekSimulates.antt); a target
 -- above it does nothing at the end, and elsewhere both refuse it and stay. A list of calls is by induction.
 -- Assumes nothing.
-use Rattle.std.specs.Prelude.{◌≡◌, ℕ, ◌<◌, ◌≤◌, List, [], ◌∷◌, ◌++◌, map, length, get_or}
+use Rattle.format.specs.declared.refusal.Refusal.{Refusal}
+use Rattle.format.specs.declared.refusal.Refusal.TheVariants.{TargetTooLarge}
+use Rattle.std.specs.Prelude.{◌≡◌, ℕ, ◌<◌, ◌≤◌, List, [], ◌∷◌, ◌++◌, map, length, get_or, Ok, Err}
 use mathlib.Core.Logic.{⊎_elim}
 use mathlib.Core.Path.{refl, ap, ap₂, ◌∙◌}
 use native.Mathlib.Nat.{eq-or-lt_of_le}
@@ -14,15 +16,13 @@ use native.Mathlib.Decide.{dec_le}
 use native.Mathlib.Omega.{arith}
 use borrow.Author.Tests.{le-leb, lt-leb, eq-eqb, ne_eqb}
 use Rattle.format.specs.declared.Term.{Term}
-use Rattle.format.specs.Basics.{Outcome, ok, refused, choose, TERMINATED}
-use Rattle.format.specs.Refusal.{target_too_large}
+use Rattle.format.specs.Basics.{Outcome, choose, TERMINATED}
 use Rattle.format.specs.Reading.{reading, docs_of, freqs_of}
 use Rattle.format.specs.Model.{Answer as Shown, at, Call, step, seek, State, after, here, answer, answers_from, answers, after_all, entries_read}
 use Rattle.format.specs.Model as model
 use Rattle.format.proofs.Sound.{Sound, sound-image}
 use Rattle.format.proofs.Visited.{seek-stands}
 use Rattle.segment_postings.specs.declared.Answer.{Answer}
-use Rattle.segment_postings.specs.declared.Answer.TheVariants.{Refused}
 use Rattle.segment_postings.specs.declared.Moved.{Moved}
 use Rattle.segment_postings.specs.declared.SegmentPostings.{SegmentPostings}
 use Rattle.segment_postings.specs.Cursor.{position, answering, moved, blank, opening, opened, advanced, doc_at, freq_at, sought}
@@ -60,7 +60,7 @@ module _ (t : Term) (bs : List ℕ) where
     pub stands : Stands r.cursor m
 
   -- a list of calls, by their answers and the cursor after them, beside the model's answers, positions and state
-  pub record GoesOn (told : List Answer) (c : SegmentPostings) (said : List Shown) (ps : List ℕ) (m : State) : Type 0 where
+  pub record GoesOn (told : List (Outcome Answer)) (c : SegmentPostings) (said : List Shown) (ps : List ℕ) (m : State) : Type 0 where
     pub shows : map shown told ≡ said
     pub numbered : all_numbers told ≡ model_numbers t.count said ps
     pub stands : Stands c m
@@ -68,23 +68,23 @@ module _ (t : Term) (bs : List ℕ) where
   -- what is told of a cursor where it stands: its numbers, and what `doc`, `term_freq` and `answer_at` give
   pub record Tells (c : SegmentPostings) (m : State) : Type 0 where
     pub counts : Counts t c m
-    pub doc_is : doc_at c bs t ≡ ok (get_or docs m.position TERMINATED)
-    pub freq_is : freq_at c bs t ≡ ok (get_or freqs m.position 0)
+    pub doc_is : doc_at c bs t ≡ Ok (get_or docs m.position TERMINATED)
+    pub freq_is : freq_at c bs t ≡ Ok (get_or freqs m.position 0)
     pub answer_is : answering t c ≡ with_entries (here docs freqs m) (entries_read t.count m.position)
 
   pub record Simulation : Type 0 where
     -- opening an image that is sound in the requested mode; it comes to the cursor that it hands back
-    pub opens : (reading t bs).refusal ≡ 0 → Goes (opened bs t) (here docs freqs model.opened) model.opened
-    pub opening_comes : (reading t bs).refusal ≡ 0 → opening bs t ≡ ok (opened bs t).cursor
+    pub opens : (reading t bs).verdict ≡ Ok tt → Goes (opened bs t) (here docs freqs model.opened) model.opened
+    pub opening_comes : (reading t bs).verdict ≡ Ok tt → opening bs t ≡ Ok (opened bs t).cursor
     -- a call; one that is allowed comes to the cursor that it hands back
     pub goes : {c : SegmentPostings} {m : State} → Stands c m → (call : Call) → Goes (called c bs t call) (answer docs freqs m call) (after docs m call)
-    pub call_comes : {c : SegmentPostings} {m : State} → Stands c m → (call : Call) → Allowed call → reaching c bs t call ≡ ok (called c bs t call).cursor
+    pub call_comes : {c : SegmentPostings} {m : State} → Stands c m → (call : Call) → Allowed call → reaching c bs t call ≡ Ok (called c bs t call).cursor
     -- where it stands
     pub tells : {c : SegmentPostings} {m : State} → Stands c m → Tells c m
     -- a list of calls, and one that begins with opening
     pub goes_on : {c : SegmentPostings} {m : State} → Stands c m → (cs : List Call)
         → GoesOn (calls_from bs t c cs) (cursor_after bs t c cs) (answers_from docs freqs m cs) (positions_from docs m cs) (after_all docs m cs)
-    pub opens_and_goes_on : (reading t bs).refusal ≡ 0 → (cs : List Call)
+    pub opens_and_goes_on : (reading t bs).verdict ≡ Ok tt → (cs : List Call)
         → GoesOn (calls bs t cs) (cursor_after bs t (opened bs t).cursor cs) (answers docs freqs cs) (positions docs cs) (after_all docs model.opened cs)
 
 -- ---- one turn of each
@@ -121,15 +121,15 @@ unfolding called reaching advanced sought
 called_is c bs t step = refl
 called_is c bs t (seek target) = refl
 
-pub moved-refused : (t : Term) (before : SegmentPostings) (n : ℕ)
-    → moved t before (refused n) ≡ record { answer = Refused n; cursor = before }
+pub moved-refused : (t : Term) (before : SegmentPostings) (r : Refusal)
+    → moved t before (Err r) ≡ record { answer = Err r; cursor = before }
 unfolding moved
-moved-refused t before n = refl
+moved-refused t before r = refl
 
-moved-there : (t : Term) (before : SegmentPostings) {c : SegmentPostings} {o : Outcome SegmentPostings} → o ≡ ok c → o ≡ ok (moved t before o).cursor
+moved-there : (t : Term) (before : SegmentPostings) {c : SegmentPostings} {o : Outcome SegmentPostings} → o ≡ Ok c → o ≡ Ok (moved t before o).cursor
 moved-there t before e = rw (e, moved_ok)
 
-all_numbers-more : (a : Answer) (rest : List Answer) → all_numbers (a ∷ rest) ≡ numbers a ++ all_numbers rest
+all_numbers-more : (a : Outcome Answer) (rest : List (Outcome Answer)) → all_numbers (a ∷ rest) ≡ numbers a ++ all_numbers rest
 unfolding all_numbers
 all_numbers-more a rest = refl
 
@@ -146,7 +146,7 @@ none-numbered n ps = refl
 pub shown-again : (a : Shown) (entries : ℕ) → shown (with_entries a entries) ≡ a
 unfolding shown with_entries
 shown-again (at doc freq unpacked) entries = refl
-shown-again (model.refused n) entries = refl
+shown-again (model.refused r) entries = refl
 
 -- ---- what the model answers
 
@@ -161,7 +161,7 @@ module _ (ds fs : List ℕ) (m : State) where
     unfolding answer choose
     answer-end e = rw (seek-stands ds m target h, lt-leb target TERMINATED h, eq-eqb m.position (length ds) e)
 
-    answer-refused : m.position < length ds → answer ds fs m (seek target) ≡ model.refused target_too_large
+    answer-refused : m.position < length ds → answer ds fs m (seek target) ≡ model.refused TargetTooLarge
     unfolding answer choose
     answer-refused l = rw (lt-leb target TERMINATED h, ne_eqb m.position (length ds) (λ e. omega arith))
 
@@ -169,7 +169,7 @@ module _ (ds fs : List ℕ) (m : State) where
 
 module _ {t : Term} {bs : List ℕ} where
   -- a call that comes to a cursor beside the model's state answers what the model has there
-  goes_to : (before : SegmentPostings) {c : SegmentPostings} {o : Outcome SegmentPostings} {m : State} (s : Sound t bs) → Agrees s c m → o ≡ ok c
+  goes_to : (before : SegmentPostings) {c : SegmentPostings} {o : Outcome SegmentPostings} {m : State} (s : Sound t bs) → Agrees s c m → o ≡ Ok c
       → Goes t bs (moved t before o) (here (docs t bs) (freqs t bs) m) m
   goes_to before s k e = rw (e, moved_ok) (record { answer_is = answer-agrees s k; stands = record { sound = s; agrees = k } })
 
@@ -179,7 +179,7 @@ module _ {t : Term} {bs : List ℕ} where
     GoesBy call = Goes t bs (called c bs t call) (answer (docs t bs) (freqs t bs) m call) (after (docs t bs) m call)
 
     allowed_agrees : (call : Call) → Allowed call
-        → (c' : SegmentPostings) × Agrees k.sound c' (after (docs t bs) m call) × (reaching c bs t call ≡ ok c')
+        → (c' : SegmentPostings) × Agrees k.sound c' (after (docs t bs) m call) × (reaching c bs t call ≡ Ok c')
     unfolding reaching
     allowed_agrees step _ = stepping-agrees k.sound k.agrees
     allowed_agrees (seek target) most = seeking-agrees k.sound k.agrees target most
@@ -210,7 +210,7 @@ module _ {t : Term} {bs : List ℕ} where
     call-goes step = allowed_goes step tt
     call-goes (seek target) = elim (dec_le target TERMINATED) [ yes most ↦ allowed_goes (seek target) most | no high ↦ high_goes target (omega arith) ]
 
-    call_comes : (call : Call) → Allowed call → reaching c bs t call ≡ ok (called c bs t call).cursor
+    call_comes : (call : Call) → Allowed call → reaching c bs t call ≡ Ok (called c bs t call).cursor
     call_comes call h = rw called_is (moved-there t c (allowed_agrees call h).2)
 
     cursor_tells : Tells t bs c m
@@ -276,5 +276,5 @@ simulation t bs = record {
       });
 }
   where
-    opens : (reading t bs).refusal ≡ 0 → Goes t bs (opened bs t) (here (docs t bs) (freqs t bs) model.opened) model.opened
+    opens : (reading t bs).verdict ≡ Ok tt → Goes t bs (opened bs t) (here (docs t bs) (freqs t bs) model.opened) model.opened
     opens readable = let s = sound-image t bs readable in let p = opening-agrees s in rw opened-is (goes_to blank s p.1 p.2)

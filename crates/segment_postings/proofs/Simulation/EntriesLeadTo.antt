@@ -3,7 +3,7 @@
 -- since the whole walk got yes there, until an entry's last id is at least the target; else it comes to the tail. Either way the
 -- block landed on loads as the one that the walk read.
 -- Assumes nothing.
-use Rattle.std.specs.Prelude.{◌≡◌, ℕ, zero, suc, ◌+◌, ◌-◌, ◌<◌, ◌≤◌, min, true, List, length, drop}
+use Rattle.std.specs.Prelude.{◌≡◌, ℕ, zero, suc, ◌+◌, ◌-◌, ◌<◌, ◌≤◌, min, true, List, length, drop, Ok}
 use mathlib.Core.Logic.{⊎_elim}
 use mathlib.Core.Path.{sym, ap, ◌∙◌}
 use native.Mathlib.Nat.{add_assoc, eq-or-lt_of_le}
@@ -16,7 +16,7 @@ use lib.Seq.{drop-drop}
 use Rattle.format.specs.declared.BlockInfo.{BlockInfo}
 use Rattle.format.specs.declared.Layout.{Layout}
 use Rattle.format.specs.declared.Term.{Term}
-use Rattle.format.specs.Basics.{ok, ask, choose, TERMINATED}
+use Rattle.format.specs.Basics.{ask, choose, TERMINATED}
 use Rattle.format.specs.SkipEntry.{read_entry, block_size_of, entry_fits_of}
 use Rattle.format.specs.Layout.{full_blocks_of, skip_bytes_of, posting_bytes_of}
 use Rattle.format.specs.Reading.{Block, reading}
@@ -76,7 +76,7 @@ module _ {t : Term} {bs : List ℕ} (s : Sound t bs) where
     pub entries_are : f.entries ≡ min (full_blocks_of t) (f.block + 1)
     pub last_is : f.info.last_doc ≡ (block_at blocks f.block).last
     pub next_is : f.at + block_size_of f.info ≡ start (min (full_blocks_of t) (f.block + 1))
-    pub loads : load_block_of t s.laid bs f ≡ ok (block_at blocks f.block)
+    pub loads : load_block_of t s.laid bs f ≡ Ok (block_at blocks f.block)
 
   -- a search from block b on
   abbrev pub start_at : ℕ → ℕ → ℕ → Start
@@ -91,12 +91,12 @@ module _ {t : Term} {bs : List ℕ} (s : Sound t bs) where
       let b : ℕ = full_blocks_of t in
       record { block = b; at = start b; least = least_at 0 blocks b; info = tail_info_of; entries = entries }
 
-  full-loads : (b entries : ℕ) → b < full_blocks_of t → load_block_of t s.laid bs (full_found b entries) ≡ ok (block_at blocks b)
+  full-loads : (b entries : ℕ) → b < full_blocks_of t → load_block_of t s.laid bs (full_found b entries) ≡ Ok (block_at blocks b)
   unfolding choose
   full-loads b entries h =
       rw (load_block_of-is, lt-ltb b (full_blocks_of t) h, bytes-at) (full_at _ _ _ _ _ _ _ _ _ s.walk b h).read
 
-  tail-loads : (entries : ℕ) → load_block_of t s.laid bs (tail_found entries) ≡ ok (block_at blocks (full_blocks_of t))
+  tail-loads : (entries : ℕ) → load_block_of t s.laid bs (tail_found entries) ≡ Ok (block_at blocks (full_blocks_of t))
   unfolding choose
   tail-loads entries =
       rw (load_block_of-is, le-ltb (full_blocks_of t) (full_blocks_of t) (omega arith), bytes-at) (tail_at _ _ _ _ _ _ _ _ _ s.walk)
@@ -148,7 +148,7 @@ module _ {t : Term} {bs : List ℕ} (s : Sound t bs) where
   -- n full blocks are left
   pub search_lands : (target n b entries unpacked : ℕ) → b + n ≡ full_blocks_of t → entries ≡ b
       → (f : Found) × FoundFor target b f
-      × (find_block_of s.laid.option (skip_bytes_of s.laid bs) bs target n (start_at b entries unpacked) ≡ ok f)
+      × (find_block_of s.laid.option (skip_bytes_of s.laid bs) bs target n (start_at b entries unpacked) ≡ Ok f)
   unfolding ask choose
   search_lands target zero b entries unpacked e k =
       let all : b ≡ full_blocks_of t = omega arith in

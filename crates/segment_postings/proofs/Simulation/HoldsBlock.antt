@@ -2,7 +2,7 @@
 -- Opening gives one that holds block 0, a step one that holds the same block or the next, and the answer at its position is what the
 -- image's documents and frequencies have there, as are the values of `doc` and `term_freq`.
 -- Assumes nothing.
-use Rattle.std.specs.Prelude.{◌≡◌, ℕ, zero, suc, ◌+◌, ◌-◌, ◌*◌, ◌<◌, ◌≤◌, min, true, ltb, List, [], ◌∷◌, length, get_or}
+use Rattle.std.specs.Prelude.{◌≡◌, ℕ, zero, suc, ◌+◌, ◌-◌, ◌*◌, ◌<◌, ◌≤◌, min, true, ltb, List, [], ◌∷◌, length, get_or, Ok}
 use mathlib.Core.Logic.{⊎_elim}
 use mathlib.Core.Path.{refl, sym, ◌∙◌}
 use native.Mathlib.Nat.{not-suc-le-zero, le_of_suc-le-suc, eq-or-lt_of_le, add-zero}
@@ -12,12 +12,11 @@ use native.Mathlib.Omega.{arith}
 use borrow.Author.Tests.{lt-ltb, le-ltb, le-leb, eq-eqb, ne_eqb}
 use lib.ListN.{get_or-append, get_or-eq_default}
 use Rattle.format.specs.declared.Term.{Term}
-use Rattle.format.specs.Basics.{ok, and_then, ask, choose, TERMINATED}
+use Rattle.format.specs.Basics.{and_then, ask, choose, TERMINATED}
 use Rattle.format.specs.Layout.{full_blocks_of}
 use Rattle.format.specs.Reading.{Block, reading, docs_of, freqs_of}
 use Rattle.format.proofs.Blocks.{block_at, full-sound, tail-sound, docs_many, freqs_many, doc-at, freq-at}
 use Rattle.format.proofs.Sound.{Sound, sound-blocks, whole-count, tail-short}
-use Rattle.segment_postings.specs.declared.Answer.TheVariants.{At}
 use Rattle.segment_postings.specs.declared.find.Found.{Found}
 use Rattle.segment_postings.specs.declared.SegmentPostings.{SegmentPostings}
 use Rattle.segment_postings.specs.Landing.{padded, holding, landing}
@@ -80,7 +79,7 @@ module _ {t : Term} {bs : List ℕ} (s : Sound t bs) where
 
   pub landing_landed : (target b unpacked : ℕ) → b ≤ full_blocks_of t → unpacked ≤ b
       → (c : SegmentPostings) × Landed s target b unpacked c
-      × (landing t bs s.laid target (start_at s b b unpacked) ≡ ok c)
+      × (landing t bs s.laid target (start_at s b b unpacked) ≡ Ok c)
   unfolding and_then
   landing_landed target b unpacked h few =
       let p = search_lands s target (full_blocks_of t - b) b b unpacked (omega arith) refl in
@@ -91,7 +90,7 @@ module _ {t : Term} {bs : List ℕ} (s : Sound t bs) where
   landed_there {from} {c = c} k =
       ⊎_elim (λ e. sym e) (λ l. absurd (not-suc-le-zero (k.passed from (omega arith) l))) (eq-or-lt_of_le k.block_least)
 
-  pub opening_landed : (c : SegmentPostings) × Landed s 0 0 0 c × (opening bs t ≡ ok c)
+  pub opening_landed : (c : SegmentPostings) × Landed s 0 0 0 c × (opening bs t ≡ Ok c)
   unfolding and_then
   opening_landed =
       let p = landing_landed 0 0 0 (omega arith) (omega arith) in
@@ -157,7 +156,7 @@ module _ {t : Term} {bs : List ℕ} (s : Sound t bs) where
 
     -- leaving a full block
     pub leaving_landed : (target : ℕ) → c.held.block < full_blocks_of t
-        → (c' : SegmentPostings) × Landed s target (suc c.held.block) c.held.unpacked c' × (leaving c.held bs t target ≡ ok c')
+        → (c' : SegmentPostings) × Landed s target (suc c.held.block) c.held.unpacked c' × (leaving c.held bs t target ≡ Ok c')
     unfolding and_then ask least_after_of
     leaving_landed target h =
         let p = landing_landed target (suc c.held.block) c.held.unpacked h (omega (arith, k.unpacked_most)) in
@@ -167,7 +166,7 @@ module _ {t : Term} {bs : List ℕ} (s : Sound t bs) where
         let inside = starts-behind t s.laid (suc c.held.block) (start_of s.laid bs (suc c.held.block)) (omega arith) in
         (p.0, p.1, rw (leaving-is, s.found, k.next_is, k.last_is, k.entries_are, one_more, least, add-one c.held.block, inside) p.2)
 
-    step-leaves : position c.held < t.count → 128 ≤ c.held.place + 1 → (c' : SegmentPostings) × Steps c' × (leaving c.held bs t 0 ≡ ok c')
+    step-leaves : position c.held < t.count → 128 ≤ c.held.place + 1 → (c' : SegmentPostings) × Steps c' × (leaving c.held bs t 0 ≡ Ok c')
     unfolding position
     step-leaves h l =
         let full : c.held.block < full_blocks_of t = omega (arith, k.place_most, k.block_most_is, whole-count t, tail-short t) in
@@ -186,11 +185,11 @@ module _ {t : Term} {bs : List ℕ} (s : Sound t bs) where
     -- a step that isn't at the end
     stepping-on : position c.held < t.count
         → stepping c bs t
-        ≡ (choose (ltb (c.held.place + 1) 128) (λ _. ok (at_place c (c.held.place + 1))) λ _. leaving c.held bs t 0)
+        ≡ (choose (ltb (c.held.place + 1) 128) (λ _. Ok (at_place c (c.held.place + 1))) λ _. leaving c.held bs t 0)
     unfolding ask choose
     stepping-on h = rw (stepping-is, holds-in_bounds_of k, ne_eqb (position c.held) t.count (λ e. omega arith))
 
-    pub stepping-steps : (c' : SegmentPostings) × Steps c' × (stepping c bs t ≡ ok c')
+    pub stepping-steps : (c' : SegmentPostings) × Steps c' × (stepping c bs t ≡ Ok c')
     unfolding ask choose
     stepping-steps =
         ⊎_elim
@@ -253,7 +252,13 @@ module _ {t : Term} {bs : List ℕ} (s : Sound t bs) {c : SegmentPostings} (k : 
   no_freq : position c.held ≡ t.count → get_or freqs (position c.held) 0 ≡ 0
   no_freq e = get_or-eq_default freqs 0 (omega (arith, freqs_many (sound-blocks s), whole-count t))
 
-  pub answer-holds : answer_at_of t c ≡ At (get_or docs (position c.held) TERMINATED) (get_or freqs (position c.held) 0) c.held.unpacked c.held.entries
+  pub answer-holds : answer_at_of t c
+      ≡ record {
+        doc = get_or docs (position c.held) TERMINATED;
+        freq = get_or freqs (position c.held) 0;
+        unpacked = c.held.unpacked;
+        entries = c.held.entries;
+      }
   unfolding choose
   answer-holds =
       ⊎_elim
@@ -262,7 +267,7 @@ module _ {t : Term} {bs : List ℕ} (s : Sound t bs) {c : SegmentPostings} (k : 
       (eq-or-lt_of_le k.position_most)
 
   -- the document and the frequency, as calls of their own
-  pub doc_holds : doc_at c bs t ≡ ok (get_or docs (position c.held) TERMINATED)
+  pub doc_holds : doc_at c bs t ≡ Ok (get_or docs (position c.held) TERMINATED)
   unfolding doc_at value_at ask choose
   doc_holds =
       ⊎_elim
@@ -270,7 +275,7 @@ module _ {t : Term} {bs : List ℕ} (s : Sound t bs) {c : SegmentPostings} (k : 
       (λ h. rw (holds-in_bounds_of s k, ne_eqb (position c.held) t.count (λ e. omega arith), doc_there h))
       (eq-or-lt_of_le k.position_most)
 
-  pub freq_holds : freq_at c bs t ≡ ok (get_or freqs (position c.held) 0)
+  pub freq_holds : freq_at c bs t ≡ Ok (get_or freqs (position c.held) 0)
   unfolding freq_at value_at ask choose
   freq_holds =
       ⊎_elim

@@ -3,14 +3,14 @@
 -- 128 of them, and the places behind them hold TERMINATED. So the search of the block answers how many of its places lie below the
 -- target: fewer than 128, and at most as many as the block has documents.
 -- Assumes nothing.
-use Rattle.std.specs.Prelude.{◌≡◌, ℕ, zero, suc, ◌+◌, ◌*◌, ◌<◌, ◌≤◌, true, leb, List, length, get_or}
+use Rattle.std.specs.Prelude.{◌≡◌, ℕ, zero, suc, ◌+◌, ◌*◌, ◌<◌, ◌≤◌, true, leb, List, length, get_or, Ok}
 use mathlib.Core.Path.{sym, subst, ◌∙◌}
 use native.Mathlib.Omega.{arith}
 use borrow.Author.Tests.{leb-true, ltb-true}
 use Rattle.format.specs.declared.IndexRecordOption.{IndexRecordOption}
 use Rattle.format.specs.declared.Layout.{Layout}
 use Rattle.format.specs.declared.Term.{Term}
-use Rattle.format.specs.Basics.{ok, TERMINATED}
+use Rattle.format.specs.Basics.{TERMINATED}
 use Rattle.format.specs.Layout.{full_blocks_of, tail_length}
 use Rattle.format.specs.Reading.{Block}
 use Rattle.format.specs.Values.{rising}
@@ -37,13 +37,13 @@ module _ (option : IndexRecordOption) (skips bs : List ℕ) (target : ℕ) where
     reaches : f.block < full → target ≤ f.info.last_doc
 
   -- from block b on, with n full ones left
-  chosen : (n : ℕ) (s : Start) {f : Found} → find_block_of option skips bs target n s ≡ ok f → Chosen (s.block + n) f
+  chosen : (n : ℕ) (s : Start) {f : Found} → find_block_of option skips bs target n s ≡ Ok f → Chosen (s.block + n) f
   chosen zero s e =
       subst (Chosen (s.block + 0)) (ok_same (sym (find_tail option skips bs target s) ∙ e))
       (record { block_most_is = omega arith; reaches = λ h. absurd (omega arith) })
   chosen (suc n) s {f} e =
       let turn = ask-ok _ _ _ (sym (find_entry option skips bs target n s) ∙ e) in
-      choose_elim (λ o. o ≡ ok f → Chosen (s.block + suc n) f) (leb target (entry_of option skips s.block).last_doc) _ _
+      choose_elim (λ o. o ≡ Ok f → Chosen (s.block + suc n) f) (leb target (entry_of option skips s.block).last_doc) _ _
       (λ t here. subst (Chosen (s.block + suc n)) (ok_same here) (record { block_most_is = omega arith; reaches = λ _. leb-true _ _ t }))
       (λ _ on.
       let k = chosen n (start_after s (entry_of option skips s.block)) on in
@@ -67,10 +67,10 @@ module _ (t : Term) (bs : List ℕ) (l : Layout) (target : ℕ) (small : target 
       record { place_below = place.below; position_most = omega (arith, place.counts, count-le target b.docs) }
 
   load-placed : (f : Found) (unpacked : ℕ) {b : Block} → f.block ≤ full_blocks_of t → (f.block < full_blocks_of t → target ≤ f.info.last_doc)
-      → load_block_of t l bs f ≡ ok b → Placed t target (holding f unpacked b)
+      → load_block_of t l bs f ≡ Ok b → Placed t target (holding f unpacked b)
   unfolding full_blocks_of tail_length
   load-placed f unpacked {b} most reached e =
-      choose_elim (λ o. o ≡ ok b → Placed t target (holding f unpacked b)) _ _ _
+      choose_elim (λ o. o ≡ Ok b → Placed t target (holding f unpacked b)) _ _ _
       (λ below k.
       let read = full_block-sound _ _ _ _ k in
       let sound = read.0.sound in
@@ -86,7 +86,7 @@ module _ (t : Term) (bs : List ℕ) (l : Layout) (target : ℕ) (small : target 
       (omega (arith, sound.docs_many)))
       (sym (load_block_of-is t l bs f) ∙ e)
 
-  pub landing-placed : (s : Start) {d : SegmentPostings} → s.block ≤ full_blocks_of t → landing t bs l target s ≡ ok d → Placed t target d
+  pub landing-placed : (s : Start) {d : SegmentPostings} → s.block ≤ full_blocks_of t → landing t bs l target s ≡ Ok d → Placed t target d
   landing-placed s h e =
       let found = and_then-ok _ _ (sym (landing_is t bs l target s) ∙ e) in
       let block = and_then-ok _ _ found.2 in
@@ -95,7 +95,7 @@ module _ (t : Term) (bs : List ℕ) (l : Layout) (target : ℕ) (small : target 
       (load-placed found.0 s.unpacked (omega (arith, k.block_most_is)) (λ m. k.reaches (omega arith)) block.1)
 
 pub leaving-placed : (h : Held) (bs : List ℕ) (t : Term) (target : ℕ) {d : SegmentPostings} → target ≤ TERMINATED
-    → h.block < full_blocks_of t → leaving h bs t target ≡ ok d → Placed t target d
+    → h.block < full_blocks_of t → leaving h bs t target ≡ Ok d → Placed t target d
 leaving-placed h bs t target small full e =
     let laid = and_then-ok _ _ (sym (leaving-is h bs t target) ∙ e) in
     landing-placed t bs _ target small (start_behind_of h) (omega arith) (ask-ok _ _ _ laid.2).1

@@ -3,14 +3,14 @@
 -- to, since the blocks before the held one lie below the present document and the held one and those passed over end below the
 -- target.
 -- Assumes nothing.
-use Rattle.std.specs.Prelude.{◌≡◌, ℕ, suc, ◌<◌, ◌≤◌, List, get_or}
+use Rattle.std.specs.Prelude.{◌≡◌, ℕ, suc, ◌<◌, ◌≤◌, List, get_or, Ok}
 use mathlib.Core.Logic.{⊎_elim}
 use mathlib.Core.Path.{refl, ap, ◌∙◌}
 use native.Mathlib.Nat.{eq-or-lt_of_le, lt_trans}
 use native.Mathlib.Decide.{dec_le}
 use native.Mathlib.Omega.{arith, by_contra}
 use Rattle.format.specs.declared.Term.{Term}
-use Rattle.format.specs.Basics.{ok, TERMINATED}
+use Rattle.format.specs.Basics.{TERMINATED}
 use Rattle.format.specs.Counts.{count_below}
 use Rattle.format.specs.Layout.{full_blocks_of}
 use Rattle.format.specs.Reading.{Block, reading, docs_of}
@@ -99,6 +99,6 @@ module _ {t : Term} {bs : List ℕ} (s : Sound t bs) where
             grows = λ _. l.unpacked_one;
           }
 
-    pub leaving_moves : (c' : SegmentPostings) × (leaving c.held bs t target ≡ ok c')
+    pub leaving_moves : (c' : SegmentPostings) × (leaving c.held bs t target ≡ Ok c')
         × MovesTo s (first_at target) c (at_place c' (search_block_of c'.docs target))
     leaving_moves = let p = leaving_landed s k target left-full in (p.0, p.2, landed_moves p.1)

@@ -2,7 +2,8 @@
 -- TERMINATED is never refused, and it goes where the model's goes: to the first document that is at least the target, if that lies
 -- behind the position. A target above TERMINATED does nothing at the end and is refused elsewhere.
 -- Assumes nothing.
-use Rattle.std.specs.Prelude.{◌≡◌, ℕ, ◌<◌, ◌≤◌, max, leb, List, get_or}
+use Rattle.format.specs.declared.refusal.Refusal.TheVariants.{TargetTooLarge}
+use Rattle.std.specs.Prelude.{◌≡◌, ℕ, ◌<◌, ◌≤◌, max, leb, List, get_or, Ok, Err}
 use mathlib.Core.Logic.{⊎_elim}
 use mathlib.Core.Path.{refl}
 use native.Mathlib.Nat.{eq-or-lt_of_le}
@@ -10,8 +11,7 @@ use native.Mathlib.Decide.{dec_le}
 use native.Mathlib.Omega.{arith}
 use borrow.Author.Tests.{lt-ltb, le-leb, lt-leb, eq-eqb, ne_eqb}
 use Rattle.format.specs.declared.Term.{Term}
-use Rattle.format.specs.Basics.{ok, refused, ask, choose, and_then, TERMINATED}
-use Rattle.format.specs.Refusal.{target_too_large}
+use Rattle.format.specs.Basics.{ask, choose, and_then, TERMINATED}
 use Rattle.format.specs.Counts.{count_below}
 use Rattle.format.specs.Reading.{reading, docs_of}
 use Rattle.format.specs.Model.{seek, State, after}
@@ -37,12 +37,12 @@ module _ {t : Term} {bs : List ℕ} (s : Sound t bs) where
 
   module _ {c : SegmentPostings} (k : Holds s c) (target : ℕ) where
     -- at the end nothing, whatever the target
-    pub seeking-end : position c.held ≡ t.count → seeking c bs t target ≡ ok c
+    pub seeking-end : position c.held ≡ t.count → seeking c bs t target ≡ Ok c
     unfolding ask choose
     seeking-end e = rw (seeking-is, holds-in_bounds_of s k, eq-eqb (position c.held) t.count e)
 
     -- else a target above TERMINATED is refused
-    pub seeking-refused : TERMINATED < target → position c.held < t.count → seeking c bs t target ≡ refused target_too_large
+    pub seeking-refused : TERMINATED < target → position c.held < t.count → seeking c bs t target ≡ Err TargetTooLarge
     unfolding ask choose
     seeking-refused high inside =
         rw (seeking-is, holds-in_bounds_of s k, ne_eqb (position c.held) t.count (λ e. omega arith), lt-leb target TERMINATED high)
@@ -52,7 +52,7 @@ module _ {t : Term} {bs : List ℕ} (s : Sound t bs) where
     Seeks c' = MovesTo s (max (position c.held) (count_below target docs)) c c'
 
     within-ok : (inside : position c.held < t.count) (ahead : get_or c.docs c.held.place 0 < target) (held : target ≤ c.held.last_doc)
-        → within c t target ≡ ok (at_place c (place_of c target))
+        → within c t target ≡ Ok (at_place c (place_of c target))
     unfolding within place_of
     within-ok inside ahead held =
         rw (
@@ -65,7 +65,7 @@ module _ {t : Term} {bs : List ℕ} (s : Sound t bs) where
     -- where the present document lies below the target
     onward : (inside : position c.held < t.count) (ahead : get_or c.docs c.held.place 0 < target)
         → (c' : SegmentPostings) × MovesTo s (count_below target docs) c c'
-        × (choose (leb target c.held.last_doc) (λ _. within c t target) (λ _. behind c bs t target) ≡ ok c')
+        × (choose (leb target c.held.last_doc) (λ _. within c t target) (λ _. behind c bs t target) ≡ Ok c')
     unfolding choose ask and_then place_of
     onward inside ahead = elim (dec_le target c.held.last_doc) [
       | yes held ↦ (_, within_moves s k target inside ahead held, rw (le-leb target _ held, within-ok inside ahead held))
@@ -77,13 +77,13 @@ module _ {t : Term} {bs : List ℕ} (s : Sound t bs) where
 
     seeking-on : position c.held < t.count
         → seeking c bs t target
-        ≡ (choose (leb target (get_or c.docs c.held.place 0)) (λ _. ok c) λ _.
+        ≡ (choose (leb target (get_or c.docs c.held.place 0)) (λ _. Ok c) λ _.
         choose (leb target c.held.last_doc) (λ _. within c t target) (λ _. behind c bs t target))
     unfolding ask choose
     seeking-on h =
         rw (seeking-is, holds-in_bounds_of s k, ne_eqb (position c.held) t.count (λ e. omega arith), le-leb target TERMINATED most)
 
-    pub seeking-seeks : (c' : SegmentPostings) × Seeks c' × (seeking c bs t target ≡ ok c')
+    pub seeking-seeks : (c' : SegmentPostings) × Seeks c' × (seeking c bs t target ≡ Ok c')
     unfolding choose
     seeking-seeks =
         ⊎_elim
@@ -105,7 +105,7 @@ module _ {t : Term} {bs : List ℕ} (s : Sound t bs) where
 
   module _ {c : SegmentPostings} {m : State} (k : Agrees s c m) (target : ℕ) where
     pub seeking-agrees : target ≤ TERMINATED
-        → (c' : SegmentPostings) × Agrees s c' (after docs m (seek target)) × (seeking c bs t target ≡ ok c')
+        → (c' : SegmentPostings) × Agrees s c' (after docs m (seek target)) × (seeking c bs t target ≡ Ok c')
     seeking-agrees most =
         let p = seeking-seeks k.holds target most in
         let goes = seek-goes 0 docs m target (docs-rising (sound-blocks s)) most in

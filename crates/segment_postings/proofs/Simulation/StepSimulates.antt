@@ -2,13 +2,12 @@
 -- as many blocks as the model has visited, a step leaves them so, and the cursor's answer is the model's. Both counts grow by one just
 -- where the block of the position does.
 -- Assumes nothing.
-use Rattle.std.specs.Prelude.{◌≡◌, ℕ, ◌+◌, ◌/◌, ◌≤◌, min, List, length}
+use Rattle.std.specs.Prelude.{◌≡◌, ℕ, ◌+◌, ◌/◌, ◌≤◌, min, List, length, Ok}
 use mathlib.Core.Logic.{⊎_elim}
 use mathlib.Core.Path.{sym, ap, ◌∙◌}
 use native.Mathlib.Nat.{eq-or-lt_of_le}
 use native.Mathlib.Omega.{arith}
 use Rattle.format.specs.declared.Term.{Term}
-use Rattle.format.specs.Basics.{ok}
 use Rattle.format.specs.Layout.{full_blocks_of}
 use Rattle.format.specs.Reading.{reading, docs_of, freqs_of}
 use Rattle.format.specs.Model.{Call, step, State, opened, after, here, entries_read}
@@ -45,7 +44,7 @@ module _ {t : Term} {bs : List ℕ} (s : Sound t bs) where
   unfolding entries_read full_blocks_of
   entries_read_is k = k.entries_are ∙ ap (λ b. min (t.count / 128) (b + 1)) (sym (block-of k))
 
-  pub opening-agrees : (c : SegmentPostings) × Agrees s c opened × (opening bs t ≡ ok c)
+  pub opening-agrees : (c : SegmentPostings) × Agrees s c opened × (opening bs t ≡ Ok c)
   unfolding position opened
   opening-agrees =
       let p = opening_landed s in (
@@ -64,7 +63,7 @@ module _ {t : Term} {bs : List ℕ} (s : Sound t bs) where
     entries_agree = rw (← k.same_position) (entries_read_is k.holds)
 
     -- the answer is the model's, with the entries that lead to the block of its position
-    pub answer-agrees : answer_at_of t c ≡ with_entries (here docs freqs m) (entries_read t.count m.position)
+    pub answer-agrees : Ok (answer_at_of t c) ≡ with_entries (here docs freqs m) (entries_read t.count m.position)
     unfolding with_entries here
     answer-agrees = rw (answer-holds s k.holds, k.same_position, k.same_count, entries_agree)
 
@@ -86,7 +85,7 @@ module _ {t : Term} {bs : List ℕ} (s : Sound t bs) where
           tracked = after-tracked docs k.tracked call;
         }
 
-    pub stepping-agrees : (c' : SegmentPostings) × Agrees s c' (after docs m step) × (stepping c bs t ≡ ok c')
+    pub stepping-agrees : (c' : SegmentPostings) × Agrees s c' (after docs m step) × (stepping c bs t ≡ Ok c')
     stepping-agrees =
         let p = stepping-steps s k.holds in
         (p.0, moves_agree step p.1 (rw (step-goes, docs-count, k.same_position)), p.2)

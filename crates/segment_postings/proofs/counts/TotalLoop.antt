@@ -2,7 +2,8 @@
 -- read from the next block on. A block that is passed whole keeps it; a document at or above the target, the end and a refusal each
 -- answer the total.
 -- Assumes nothing.
-use Rattle.std.specs.Prelude.{◌≡◌, ℕ, ◌+◌, ◌*◌, ◌<◌, ◌≤◌, true, false, eqb, List, length, take}
+use Rattle.format.specs.declared.refusal.Refusal.{Refusal}
+use Rattle.std.specs.Prelude.{◌≡◌, ℕ, ◌+◌, ◌*◌, ◌<◌, ◌≤◌, true, false, eqb, List, length, take, Ok, Err}
 use mathlib.Core.Logic.{⊎_elim}
 use mathlib.Core.Path.{sym, ap, ◌∙◌}
 use native.Mathlib.Nat.{add-zero, eq-or-lt_of_le}
@@ -11,7 +12,7 @@ use native.Mathlib.Omega.{arith}
 use lib.Seq.{take_all}
 use Rattle.format.specs.declared.Layout.{Layout}
 use Rattle.format.specs.declared.Term.{Term}
-use Rattle.format.specs.Basics.{Outcome, ok, refused}
+use Rattle.format.specs.Basics.{Outcome}
 use Rattle.format.specs.Layout.{layout, full_blocks_of}
 use Rattle.format.specs.Reading.{Reading, nothing, before, reading}
 use Rattle.format.specs.Counts.{count_below, sum, total_in}
@@ -32,7 +33,7 @@ pub record Walked (t : Term) (l : Layout) (bs : List ℕ) (target : ℕ) (s : St
   pub passed_most : passed ≤ s.block * 549755813760
   pub total_is : total_in target (reading t bs) ≡ added passed (total_in target (reading_from t l bs s))
 
-pub walked_none : (t : Term) (l : Layout) (bs : List ℕ) (target : ℕ) {s : Start} → layout t bs ≡ ok l → s ≡ first_start_of l → Walked t l bs target s 0
+pub walked_none : (t : Term) (l : Layout) (bs : List ℕ) (target : ℕ) {s : Start} → layout t bs ≡ Ok l → s ≡ first_start_of l → Walked t l bs target s 0
 walked_none t l bs target e is =
     let first = walks-first t l bs e is in
     record {
@@ -44,13 +45,13 @@ walked_none t l bs target e is =
 module _ {t : Term} {l : Layout} {bs : List ℕ} {target : ℕ} {s : Start} {passed : ℕ} (w : Walked t l bs target s passed) where
   -- ---- a block that is refused
 
-  pub walk_refused : {n : ℕ} → landing t bs l 0 s ≡ refused n → total_in target (reading t bs) ≡ refused n
+  pub walk_refused : {n : Refusal} → landing t bs l 0 s ≡ Err n → total_in target (reading t bs) ≡ Err n
   unfolding added
   walk_refused {n} e =
       let none = turn-none t l bs w.walks e in
       w.total_is
-      ∙ ap (λ (r : Reading). added passed (total_in target r)) none.reads
-      ∙ ap (λ (o : Outcome ℕ). added passed o) (total-refused target n none.numbered)
+      ∙ ap (λ (r : Reading). added passed (total_in target r)) none
+      ∙ ap (λ (o : Outcome ℕ). added passed o) (total-refused target n)
 
   -- ---- the block that is held
 
@@ -69,7 +70,7 @@ module _ {t : Term} {l : Layout} {bs : List ℕ} {target : ℕ} {s : Start} {pas
     same : length k.block.docs ≡ length k.block.freqs
     same = k.docs_many ∙ sym k.freqs_many
 
-    pub walk_stops : r.whole ≡ false → total_in target (reading t bs) ≡ ok (passed + r.freqs)
+    pub walk_stops : r.whole ≡ false → total_in target (reading t bs) ≡ Ok (passed + r.freqs)
     unfolding added
     walk_stops short =
         let behind = reads_first t l bs s.block s.at s.least k in
@@ -82,7 +83,7 @@ module _ {t : Term} {l : Layout} {bs : List ℕ} {target : ℕ} {s : Start} {pas
 
     module _ (whole : r.whole ≡ true) where
       -- a block that is passed whole, and what is read behind it
-      passes : (rest : Reading) → reading_from t l bs s ≡ (before (ok k.block) λ _. rest)
+      passes : (rest : Reading) → reading_from t l bs s ≡ (before (Ok k.block) λ _. rest)
           → total_in target (reading t bs) ≡ added (passed + r.freqs) (total_in target rest)
       passes rest e =
           let all : n ≡ length k.block.docs = eqb-true _ _ (sym whole_is ∙ whole) in
@@ -94,12 +95,12 @@ module _ {t : Term} {l : Layout} {bs : List ℕ} {target : ℕ} {s : Start} {pas
           ∙ added_twice passed (sum k.block.freqs) (total_in target rest)
           ∙ ap (λ (m : ℕ). added (passed + m) (total_in target rest)) freqs-all
 
-      pub walk_ends : full_blocks_of t ≤ s.block → total_in target (reading t bs) ≡ ok (passed + r.freqs)
+      pub walk_ends : full_blocks_of t ≤ s.block → total_in target (reading t bs) ≡ Ok (passed + r.freqs)
       unfolding added
       walk_ends past =
-          passes (nothing 0) (reads-last t l bs s.block s.at s.least k past)
+          passes (nothing (Ok tt)) (reads-last t l bs s.block s.at s.least k past)
           ∙ ap (λ (o : Outcome ℕ). added (passed + r.freqs) o) (total-ended target)
-          ∙ ap (λ (m : ℕ). ok m) (add-zero (passed + r.freqs))
+          ∙ ap (λ (m : ℕ). Ok m) (add-zero (passed + r.freqs))
 
       pub walk-goes-on : {s' : Start} → s.block < full_blocks_of t → s' ≡ start_behind_of h → Walked t l bs target s' (passed + r.freqs)
       walk-goes-on some is =

@@ -1,7 +1,8 @@
 -- Laws of the search for a block: one turn of it, and what is known of the block that it comes to. Each turn but the last passes one
 -- block over and reads one entry, which passed question 5, so that the bytes of the block, and those of the next, are there.
 -- Assumes nothing.
-use Rattle.std.specs.Prelude.{◌≡◌, ℕ, zero, suc, ◌+◌, ◌-◌, ◌*◌, ◌<◌, ◌≤◌, min, true, false, leb, ◌⊎◌, List, length, drop}
+use Rattle.format.specs.declared.refusal.Refusal.TheVariants.{EntryBroken}
+use Rattle.std.specs.Prelude.{◌≡◌, ℕ, zero, suc, ◌+◌, ◌-◌, ◌*◌, ◌<◌, ◌≤◌, min, true, false, leb, ◌⊎◌, List, length, drop, Ok, Err}
 use mathlib.Core.Bool.{and-eq-true_iff}
 use mathlib.Core.Logic.{inl, inr}
 use mathlib.Core.Path.{refl, sym, subst, ◌∙◌}
@@ -11,8 +12,7 @@ use Rattle.format.specs.declared.BlockInfo.{BlockInfo}
 use Rattle.format.specs.declared.IndexRecordOption.{IndexRecordOption}
 use Rattle.format.specs.declared.Layout.{Layout}
 use Rattle.format.specs.declared.Term.{Term}
-use Rattle.format.specs.Basics.{ok, refused, ask, choose, TERMINATED}
-use Rattle.format.specs.Refusal.{entry_broken}
+use Rattle.format.specs.Basics.{ask, choose, TERMINATED}
 use Rattle.format.specs.SkipEntry.{entry_size_of, read_entry, block_size_of, entry_fits_of}
 use Rattle.format.specs.Layout.{full_blocks_of, skip_bytes_of}
 use Rattle.format.proofs.Choice.{choose_elim}
@@ -51,15 +51,15 @@ module _ (option : IndexRecordOption) (skips bs : List ℕ) (target : ℕ) where
 
   pub find_tail : (s : Start)
       → find_block_of option skips bs target zero s
-      ≡ ok (record { block = s.block; at = s.at; least = s.least; info = tail_info_of; entries = s.entries })
+      ≡ Ok (record { block = s.block; at = s.at; least = s.least; info = tail_info_of; entries = s.entries })
   unfolding find_block_of
   find_tail s = refl
 
   pub find_entry : (n : ℕ) (s : Start)
       → find_block_of option skips bs target (suc n) s
-      ≡ (ask (entry_fits_of s.least (length bs - s.at) (entry_of option skips s.block)) entry_broken λ _.
+      ≡ (ask (entry_fits_of s.least (length bs - s.at) (entry_of option skips s.block)) EntryBroken λ _.
       choose (leb target (entry_of option skips s.block).last_doc)
-      (λ _. ok (record { block = s.block; at = s.at; least = s.least; info = entry_of option skips s.block; entries = s.entries + 1 }))
+      (λ _. Ok (record { block = s.block; at = s.at; least = s.least; info = entry_of option skips s.block; entries = s.entries + 1 }))
       (λ _. find_block_of option skips bs target n (start_after s (entry_of option skips s.block))))
   unfolding find_block_of
   find_entry n s = refl
@@ -67,22 +67,22 @@ module _ (option : IndexRecordOption) (skips bs : List ℕ) (target : ℕ) where
   -- .. at a block with an entry, of `full` blocks in all
   module _ (full : ℕ) (s : Start) (e : BlockInfo) (some : s.block < full) (read : e ≡ entry_of option skips s.block) where
     find_turn : find_block_of option skips bs target (full - s.block) s
-        ≡ (ask (entry_fits_of s.least (length bs - s.at) e) entry_broken λ _.
+        ≡ (ask (entry_fits_of s.least (length bs - s.at) e) EntryBroken λ _.
         choose (leb target e.last_doc)
-        (λ _. ok (record { block = s.block; at = s.at; least = s.least; info = e; entries = s.entries + 1 }))
+        (λ _. Ok (record { block = s.block; at = s.at; least = s.least; info = e; entries = s.entries + 1 }))
         (λ _. find_block_of option skips bs target (full - (s.block + 1)) (start_after s e)))
     find_turn =
         let left : full - s.block ≡ suc (full - (s.block + 1)) = omega arith in
         rw (read, left) (find_entry (full - (s.block + 1)) s)
 
-    pub find_broken : entry_fits_of s.least (length bs - s.at) e ≡ false → find_block_of option skips bs target (full - s.block) s ≡ refused entry_broken
+    pub find_broken : entry_fits_of s.least (length bs - s.at) e ≡ false → find_block_of option skips bs target (full - s.block) s ≡ Err EntryBroken
     unfolding ask
     find_broken t = rw (find_turn, t)
 
     module _ (fits : entry_fits_of s.least (length bs - s.at) e ≡ true) where
       pub find_here : target ≤ e.last_doc
           → find_block_of option skips bs target (full - s.block) s
-          ≡ ok (record { block = s.block; at = s.at; least = s.least; info = e; entries = s.entries + 1 })
+          ≡ Ok (record { block = s.block; at = s.at; least = s.least; info = e; entries = s.entries + 1 })
       unfolding ask choose
       find_here h = rw (find_turn, fits, le-leb _ _ h)
 
@@ -96,7 +96,7 @@ module _ (option : IndexRecordOption) (skips bs : List ℕ) (target : ℕ) where
   -- .. behind the last
   pub find_end : (full : ℕ) (s : Start) (e : BlockInfo) → full ≤ s.block → e ≡ tail_info_of
       → find_block_of option skips bs target (full - s.block) s
-      ≡ ok (record { block = s.block; at = s.at; least = s.least; info = e; entries = s.entries })
+      ≡ Ok (record { block = s.block; at = s.at; least = s.least; info = e; entries = s.entries })
   find_end full s e h i =
       let none : full - s.block ≡ 0 = omega arith in
       rw (i, none) (find_tail s)
@@ -174,14 +174,14 @@ module _ (option : IndexRecordOption) (skips bs : List ℕ) where
       }
 
   landed : (target n : ℕ) (s : Start) {f : Found} → s.at ≤ length bs
-      → find_block_of option skips bs target n s ≡ ok f → Landed n s.block s.least s.entries f
+      → find_block_of option skips bs target n s ≡ Ok f → Landed n s.block s.least s.entries f
   landed target zero s h e =
       subst (Landed zero s.block s.least s.entries) (ok_same (sym (find_tail option skips bs target s) ∙ e))
       (landed_tail s.block s.at s.least s.entries h)
   landed target (suc n) s {f} h e =
       let turn = ask-ok _ _ _ (sym (find_entry option skips bs target n s) ∙ e) in
       let p = passed _ _ _ turn.0 in
-      choose_elim (λ o. o ≡ ok f → Landed (suc n) s.block s.least s.entries f) (leb target (entry_of option skips s.block).last_doc) _ _
+      choose_elim (λ o. o ≡ Ok f → Landed (suc n) s.block s.least s.entries f) (leb target (entry_of option skips s.block).last_doc) _ _
       (λ _ here. subst (Landed (suc n) s.block s.least s.entries) (ok_same here)
       (landed_here n s.block s.at s.least s.entries h p))
       (λ _ on. landed_on n s.block s.least s.entries f (landed target n (start_after s (entry_of option skips s.block)) (omega (arith, p.bytes)) on))
@@ -196,7 +196,7 @@ pub record FoundFrom (t : Term) (l : Layout) (bs : List ℕ) (s : Start) (f : Fo
   pub least_known : LeastKnown l.option (skip_bytes_of l bs) s.block s.least f
 
 module _ (t : Term) (l : Layout) (bs : List ℕ) (target : ℕ) (s : Start) {f : Found} (from : FindsFrom t l bs s)
-    (e : find_block_of l.option (skip_bytes_of l bs) bs target (full_blocks_of t - s.block) s ≡ ok f) where
+    (e : find_block_of l.option (skip_bytes_of l bs) bs target (full_blocks_of t - s.block) s ≡ Ok f) where
   land : Landed l.option (skip_bytes_of l bs) bs (full_blocks_of t - s.block) s.block s.least s.entries f
   land = landed l.option (skip_bytes_of l bs) bs target (full_blocks_of t - s.block) s from.inside e
 

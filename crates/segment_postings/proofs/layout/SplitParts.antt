@@ -2,7 +2,9 @@
 -- lie inside the image. Each goes by the answers to the same two tests, whether there is a full block and whether the skip length is
 -- above the bytes behind it.
 -- Assumes nothing.
-use Rattle.std.specs.Prelude.{◌≡◌, ℕ, ◌+◌, ◌-◌, ◌*◌, ◌/◌, ◌^◌, ◌<◌, ◌≤◌, true, ◌&&◌ as and, eqb, leb, List, length}
+use Rattle.format.specs.declared.refusal.Refusal.{Refusal}
+use Rattle.format.specs.declared.refusal.Refusal.TheVariants.{UnknownMode, CountTooLarge, SkipLengthBroken}
+use Rattle.std.specs.Prelude.{◌≡◌, ℕ, ◌+◌, ◌-◌, ◌*◌, ◌/◌, ◌^◌, ◌<◌, ◌≤◌, Bool, true, false, ◌&&◌ as and, eqb, leb, List, length, Ok, Err, Option, None, Some}
 use mathlib.Core.Path.{refl, sym, ap, subst, ◌∙◌}
 use native.Mathlib.Nat.{add-sub_cancel_left, mul-zero, mul-suc, mul-le-mul_left}
 use native.Mathlib.Omega.{arith}
@@ -10,10 +12,7 @@ use borrow.Author.Tests.{leb-true, leb-false, eqb-true, eqb-false, eq-eqb, ne_eq
 use lib.ListN.{length-take, length-drop}
 use Rattle.format.specs.declared.Layout.{Layout}
 use Rattle.format.specs.declared.Term.{Term}
-use Rattle.format.specs.declared.VInt.{VInt}
-use Rattle.format.specs.declared.VInt.TheVariants.{Number, Malformed}
-use Rattle.format.specs.Basics.{Outcome, ok, refused, ask, choose, TERMINATED}
-use Rattle.format.specs.Refusal.{unknown_mode, count_too_large, skip_length_broken}
+use Rattle.format.specs.Basics.{Outcome, ask, choose, TERMINATED}
 use Rattle.format.specs.Accepted.{known_mode_of, kept_in}
 use Rattle.format.specs.SkipEntry.{entry_size_of}
 use Rattle.format.specs.Vint.{skip_length}
@@ -23,21 +22,27 @@ use Rattle.format.proofs.Outcome.{refused≢ok, ok_same, ask-ok}
 use Rattle.format.proofs.Opened.{sized-is, split-number, layout_is}
 use Rattle.format.proofs.Vints.{read-used}
 use Rattle.segment_postings.specs.declared.layout.Split.{Split}
-use Rattle.segment_postings.specs.declared.layout.Split.TheVariants.{At, Broken}
 use Rattle.segment_postings.specs.Calls.{split_behind, split_of, part_of, skips_at, postings_at, skip_part, posting_part}
 
+-- what holds of both outcomes that a question may have
+ask_elim : {A : Type 0} (P : Outcome A → Type 0) (t : Bool) (r : Refusal) (go : Bool → Outcome A)
+    → (t ≡ true → P (go true)) → (t ≡ false → P (Err r)) → P (ask t r go)
+unfolding ask
+ask_elim P true r go p q = p refl
+ask_elim P false r go p q = q refl
+
 -- what holds each time question 3 is answered, whatever the answer, holds of the split
-module _ (count : ℕ) (bs : List ℕ) (P : Split → Type 0)
-    (alone : count / 128 ≡ 0 → P (At 0 0))
-    (inside : (size used : ℕ) → (count / 128 ≡ 0 → ⊥) → skip_length bs ≡ Number size used → size ≤ length bs - used
-    → P (At used (used + size)))
-    (above : (size used : ℕ) → (count / 128 ≡ 0 → ⊥) → skip_length bs ≡ Number size used → length bs - used < size → P Broken)
-    (malformed : (count / 128 ≡ 0 → ⊥) → skip_length bs ≡ Malformed → P Broken) where
-  behind : (count / 128 ≡ 0 → ⊥) → (v : VInt) → skip_length bs ≡ v → P (split_behind bs v)
+module _ (count : ℕ) (bs : List ℕ) (P : Outcome Split → Type 0)
+    (alone : count / 128 ≡ 0 → P (Ok (record { skips = 0; postings = 0 })))
+    (inside : (size used : ℕ) → (count / 128 ≡ 0 → ⊥) → skip_length bs ≡ Some (size, used) → size ≤ length bs - used
+    → P (Ok (record { skips = used; postings = used + size })))
+    (above : (size used : ℕ) → (count / 128 ≡ 0 → ⊥) → skip_length bs ≡ Some (size, used) → length bs - used < size → P (Err SkipLengthBroken))
+    (malformed : (count / 128 ≡ 0 → ⊥) → skip_length bs ≡ None → P (Err SkipLengthBroken)) where
+  behind : (count / 128 ≡ 0 → ⊥) → (v : Option (ℕ × ℕ)) → skip_length bs ≡ v → P (split_behind bs v)
   unfolding split_behind
-  behind some Malformed e = malformed some e
-  behind some (Number size used) e =
-      choose_elim P (leb size (length bs - used)) _ _
+  behind some None e = malformed some e
+  behind some (Some (size, used)) e =
+      ask_elim P (leb size (length bs - used)) _ _
       (λ t. inside size used some e (leb-true _ _ t))
       (λ t. above size used some e (leb-false _ _ t))
 
@@ -50,9 +55,9 @@ module _ (count : ℕ) (bs : List ℕ) (P : Split → Type 0)
 
 -- ---- inside the image
 
-abbrev Inside : List ℕ → Split → Type 0
-Inside bs (At skips postings) = (skips ≤ postings) × (postings ≤ length bs)
-Inside bs Broken = Unit {0}
+abbrev Inside : List ℕ → Outcome Split → Type 0
+Inside bs (Ok s) = (s.skips ≤ s.postings) × (s.postings ≤ length bs)
+Inside bs (Err r) = Unit {0}
 
 split-inside : (count : ℕ) (bs : List ℕ) → Inside bs (split_of count bs)
 unfolding skip_length
@@ -63,16 +68,16 @@ split-inside count bs =
     (λ _ _ _ _ _. tt)
     (λ _ _. tt)
 
-pub split_places : (count : ℕ) (bs : List ℕ) {skips postings : ℕ} → split_of count bs ≡ At skips postings
-    → (skips ≤ postings) × (postings ≤ length bs)
+pub split_places : (count : ℕ) (bs : List ℕ) {s : Split} → split_of count bs ≡ Ok s
+    → (s.skips ≤ s.postings) × (s.postings ≤ length bs)
 split_places count bs e = rw e at (split-inside count bs)
 
 -- ---- the parts
 
-part_at : (part : ℕ → ℕ → List ℕ) (count : ℕ) (bs : List ℕ) {r : Split} → split_of count bs ≡ r → part_of part r ≡ part_of part (split_of count bs)
+part_at : (part : ℕ → ℕ → List ℕ) (count : ℕ) (bs : List ℕ) {r : Outcome Split} → split_of count bs ≡ r → part_of part r ≡ part_of part (split_of count bs)
 part_at part count bs e = ap (part_of part) (sym e)
 
-module _ (count : ℕ) (bs : List ℕ) {r : Split} (e : split_of count bs ≡ r) where
+module _ (count : ℕ) (bs : List ℕ) {r : Outcome Split} (e : split_of count bs ≡ r) where
   pub skips_at_is : part_of (skips_at bs) r ≡ skip_part count bs
   unfolding skip_part
   skips_at_is = part_at (skips_at bs) count bs e
@@ -83,22 +88,22 @@ module _ (count : ℕ) (bs : List ℕ) {r : Split} (e : split_of count bs ≡ r)
 
 -- ---- the layout
 
-abbrev pub layout_at : Term → Split → Outcome Layout
-layout_at t (At skips postings) = sized t (postings - skips) skips
-layout_at t Broken = refused skip_length_broken
+abbrev pub layout_at : Term → Outcome Split → Outcome Layout
+layout_at t (Ok s) = sized t (s.postings - s.skips) s.skips
+layout_at t (Err r) = Err r
 
 -- without a full block question 4 is answered yes by no entries in no bytes
-sized-alone : (t : Term) → full_blocks_of t ≡ 0 → sized t 0 0 ≡ ok (record { option = kept_in t.mode true; skips = 0; postings = 0 })
+sized-alone : (t : Term) → full_blocks_of t ≡ 0 → sized t 0 0 ≡ Ok (record { option = kept_in t.mode true; skips = 0; postings = 0 })
 unfolding ask
 sized-alone t e = rw (sized-is, e, mul-zero)
 
 -- questions 1 and 2, before what follows them
 abbrev pub asked : Term → Outcome Layout → Outcome Layout
 asked t o =
-    ask (and (known_mode_of t.mode) (leb t.requested 2)) unknown_mode λ _.
-    ask (leb t.count TERMINATED) count_too_large λ _. o
+    ask (and (known_mode_of t.mode) (leb t.requested 2)) UnknownMode λ _.
+    ask (leb t.count TERMINATED) CountTooLarge λ _. o
 
-pub layout-at : (t : Term) (bs : List ℕ) {r : Split} → split_of t.count bs ≡ r → layout t bs ≡ asked t (layout_at t r)
+pub layout-at : (t : Term) (bs : List ℕ) {r : Outcome Split} → split_of t.count bs ≡ r → layout t bs ≡ asked t (layout_at t r)
 unfolding ask choose split full_blocks_of
 layout-at t bs e =
     rw e at
@@ -116,18 +121,18 @@ pub record LaidOut (t : Term) (bs : List ℕ) (l : Layout) : Type 0 where
   pub inside : l.postings ≤ length bs
   pub entries : l.postings - l.skips ≡ entry_size_of l.option * full_blocks_of t
 
-at_split : (t : Term) (bs : List ℕ) (r : Split) {l : Layout} → Inside bs r → layout_at t r ≡ ok l → LaidOut t bs l
-at_split t bs (At skips postings) i e =
-    let answered = ask-ok _ _ _ (sym (sized-is t (postings - skips) skips) ∙ e) in
+at_split : (t : Term) (bs : List ℕ) (r : Outcome Split) {l : Layout} → Inside bs r → layout_at t r ≡ Ok l → LaidOut t bs l
+at_split t bs (Ok s) i e =
+    let answered = ask-ok _ _ _ (sym (sized-is t (s.postings - s.skips) s.skips) ∙ e) in
     subst (LaidOut t bs) (ok_same answered.1)
     (record {
       rising = omega arith;
       inside = omega arith;
-      entries = add-sub_cancel_left skips (postings - skips) ∙ eqb-true _ _ answered.0;
+      entries = add-sub_cancel_left s.skips (s.postings - s.skips) ∙ eqb-true _ _ answered.0;
     })
-at_split t bs Broken i e = absurd (refused≢ok e)
+at_split t bs (Err r) i e = absurd (refused≢ok e)
 
-pub laid_out : (t : Term) (bs : List ℕ) {l : Layout} → layout t bs ≡ ok l → LaidOut t bs l
+pub laid_out : (t : Term) (bs : List ℕ) {l : Layout} → layout t bs ≡ Ok l → LaidOut t bs l
 laid_out t bs e =
     let first = ask-ok _ _ _ (sym (layout-at t bs refl) ∙ e) in
     at_split t bs (split_of t.count bs) (split-inside t.count bs) (ask-ok _ _ _ first.1).1

@@ -2,7 +2,9 @@
 -- the values, and question 6 is the same (`Differ`); a frequency that is out of range is 0 in its place of 32 bits, and no other is. Of a
 -- full block the numbers are always there and its bytes end where its entry says; of a tail each case is one of the definition's.
 -- Assumes nothing.
-use Rattle.std.specs.Prelude.{◌≡◌, ℕ, zero, suc, ◌+◌, ◌*◌, ◌%◌, ◌^◌, ◌<◌, ◌≤◌, Bool, true, false, not, ◌&&◌ as and, eqb, ltb, List, [], ◌∷◌, ◌++◌, map, length, take, drop, replicate}
+use Rattle.format.specs.declared.refusal.Refusal.{Refusal}
+use Rattle.format.specs.declared.refusal.Refusal.TheVariants.{DocsNotRising, FreqOutOfRange, NumberBroken, BytesLeft}
+use Rattle.std.specs.Prelude.{◌≡◌, ℕ, zero, suc, ◌+◌, ◌*◌, ◌%◌, ◌^◌, ◌<◌, ◌≤◌, Bool, true, false, not, ◌&&◌ as and, eqb, ltb, List, [], ◌∷◌, ◌++◌, map, length, take, drop, replicate, Ok, Err, None, Some}
 use mathlib.Core.Path.{refl, sym, ap, ap₂, ◌∙◌}
 use mathlib.Core.Bool.{and-true, and-false}
 use mathlib.Core.List.{append-nil}
@@ -15,13 +17,11 @@ use Rattle.format.specs.declared.BlockInfo.{BlockInfo}
 use Rattle.format.specs.declared.IndexRecordOption.{IndexRecordOption}
 use Rattle.format.specs.declared.Layout.{Layout}
 use Rattle.format.specs.declared.Term.{Term}
-use Rattle.format.specs.Basics.{Outcome, ok, refused, and_then, ask, choose, TERMINATED, AllBelow}
+use Rattle.format.specs.Basics.{Outcome, and_then, ask, choose, TERMINATED, AllBelow}
 use Rattle.format.specs.Model.{member}
-use Rattle.format.specs.Refusal.{docs_not_rising, freq_out_of_range, number_broken, bytes_left}
 use Rattle.format.specs.Bitpacking.{unpack}
 use Rattle.format.specs.SkipEntry.{has_freq_of}
 use Rattle.format.specs.Values.{ids, rising, restored, reduction, countable}
-use Rattle.format.specs.declared.Next.TheVariants.{At, Refused}
 use Rattle.format.specs.Vint.{Numbers, tail_numbers}
 use Rattle.format.specs.Layout.{full_blocks_of, tail_length}
 use Rattle.format.specs.Reading.{full_freqs, full_block, ended, tail_freqs, tail_has_freq, tail_block}
@@ -44,8 +44,8 @@ use Rattle.segment_postings.specs.Taken.{full_taken_of, tail_taken_of, ends_on, 
 -- ---- the definitions, opened by one turn
 
 -- two questions before what follows them
-then_asked : {A B : Type 0} (a b : Bool) (m n : ℕ) (x : A) (f : A → Outcome B)
-    → and_then (ask a m λ _. ask b n λ _. ok x) f ≡ ask a m λ _. ask b n λ _. f x
+then_asked : {A B : Type 0} (a b : Bool) (m n : Refusal) (x : A) (f : A → Outcome B)
+    → and_then (ask a m λ _. ask b n λ _. Ok x) f ≡ ask a m λ _. ask b n λ _. f x
 unfolding and_then ask
 then_asked true true m n x f = refl
 then_asked true false m n x f = refl
@@ -54,16 +54,16 @@ then_asked false b m n x f = refl
 pub asked_is : (k : Taken) (least : ℕ) (docs freqs : List ℕ)
     → asked k least docs freqs
     ≡ (let vs : List ℕ = take k.n docs in
-    ask k.docs_there number_broken λ _.
-    ask (and (differences_rise least vs) (ends_on k.full k.last_doc (ids_behind least vs))) docs_not_rising λ _.
+    ask k.docs_there NumberBroken λ _.
+    ask (and (differences_rise least vs) (ends_on k.full k.last_doc (ids_behind least vs))) DocsNotRising λ _.
     and_then (asked_freqs k freqs) λ fs.
-    ok (record { docs = ids_behind least vs; freqs = fs; last = k.last_doc }))
+    Ok (record { docs = ids_behind least vs; freqs = fs; last = k.last_doc }))
 unfolding asked asked_docs
 asked_is k least docs freqs =
     let vs : List ℕ = take k.n docs in
-    then_asked k.docs_there (and (differences_rise least vs) (ends_on k.full k.last_doc (ids_behind least vs))) number_broken docs_not_rising
+    then_asked k.docs_there (and (differences_rise least vs) (ends_on k.full k.last_doc (ids_behind least vs))) NumberBroken DocsNotRising
     (ids_behind least vs)
-    (λ ds. and_then (asked_freqs k freqs) λ fs. ok (record { docs = ds; freqs = fs; last = k.last_doc }))
+    (λ ds. and_then (asked_freqs k freqs) λ fs. Ok (record { docs = ds; freqs = fs; last = k.last_doc }))
 
 -- ---- the questions in turn, each where those before it were answered yes
 
@@ -71,21 +71,21 @@ module _ (k : Taken) (least : ℕ) (docs : List ℕ) where
   abbrev vs : List ℕ
   vs = take k.n docs
 
-  pub docs_broken : k.docs_there ≡ false → asked_docs k least docs ≡ refused number_broken
+  pub docs_broken : k.docs_there ≡ false → asked_docs k least docs ≡ Err NumberBroken
   unfolding asked_docs ask
   docs_broken h = rw h
 
   module _ (there : k.docs_there ≡ true) where
-    pub docs_fallen : differences_rise least vs ≡ false → asked_docs k least docs ≡ refused docs_not_rising
+    pub docs_fallen : differences_rise least vs ≡ false → asked_docs k least docs ≡ Err DocsNotRising
     unfolding asked_docs ask
     docs_fallen h = rw (there, h)
 
-    pub docs-end_wrong : ends_on k.full k.last_doc (ids_behind least vs) ≡ false → asked_docs k least docs ≡ refused docs_not_rising
+    pub docs-end_wrong : ends_on k.full k.last_doc (ids_behind least vs) ≡ false → asked_docs k least docs ≡ Err DocsNotRising
     unfolding asked_docs ask
     docs-end_wrong h = rw (there, h, and-false (differences_rise least vs))
 
     pub docs_right : differences_rise least vs ≡ true → ends_on k.full k.last_doc (ids_behind least vs) ≡ true
-        → asked_docs k least docs ≡ ok (ids_behind least vs)
+        → asked_docs k least docs ≡ Ok (ids_behind least vs)
     unfolding asked_docs ask
     docs_right rises ends = rw (there, rises, ends)
 
@@ -93,21 +93,21 @@ module _ (k : Taken) (freqs : List ℕ) where
   abbrev fs : List ℕ
   fs = take k.n freqs
 
-  pub freqs_broken : k.freqs_there ≡ false → asked_freqs k freqs ≡ refused number_broken
+  pub freqs_broken : k.freqs_there ≡ false → asked_freqs k freqs ≡ Err NumberBroken
   unfolding asked_freqs ask
   freqs_broken h = rw h
 
   module _ (there : k.freqs_there ≡ true) where
-    pub freqs_wrong : member 0 fs ≡ true → asked_freqs k freqs ≡ refused freq_out_of_range
+    pub freqs_wrong : member 0 fs ≡ true → asked_freqs k freqs ≡ Err FreqOutOfRange
     unfolding asked_freqs ask
     freqs_wrong h = rw (there, h)
 
     module _ (counts : member 0 fs ≡ false) where
-      pub freqs-not-last : k.ended ≡ false → asked_freqs k freqs ≡ refused bytes_left
+      pub freqs-not-last : k.ended ≡ false → asked_freqs k freqs ≡ Err BytesLeft
       unfolding asked_freqs ask
       freqs-not-last h = rw (there, counts, h)
 
-      pub freqs_right : k.ended ≡ true → asked_freqs k freqs ≡ ok fs
+      pub freqs_right : k.ended ≡ true → asked_freqs k freqs ≡ Ok fs
       unfolding asked_freqs ask
       freqs_right h = rw (there, counts, h)
 
@@ -119,14 +119,14 @@ ones_nonzero (suc n) = ones_nonzero n
 
 -- frequencies that weren't read: question 9 alone is left
 asked_freqs-unread : (k : Taken) (freqs : List ℕ) → k.freqs_there ≡ true → take k.n freqs ≡ replicate k.n 1
-    → asked_freqs k freqs ≡ ask k.ended bytes_left λ _. ok (replicate k.n 1)
+    → asked_freqs k freqs ≡ ask k.ended BytesLeft λ _. Ok (replicate k.n 1)
 unfolding asked_freqs ask
 asked_freqs-unread k freqs there ones = rw (there, ones, ones_nonzero k.n)
 
 -- ---- what differences and places of 32 bits have in the place of values
 
 -- ids by their differences: question 6 and what follows it
-docs_same : {B : Type 0} {strict : Bool} {least : ℕ} {vs ds : List ℕ} → Differ strict least vs ds → (full : Bool) (last n : ℕ) (g : List ℕ → Outcome B)
+docs_same : {B : Type 0} {strict : Bool} {least : ℕ} {vs ds : List ℕ} → Differ strict least vs ds → (full : Bool) (last : ℕ) (n : Refusal) (g : List ℕ → Outcome B)
     → (ask (and (differences_rise least ds) (ends_on full last (ids_behind least ds))) n λ _. g (ids_behind least ds))
     ≡ (ask (and (rising least (ids strict least vs)) (ends_on full last (ids strict least vs))) n λ _. g (ids strict least vs))
 unfolding ask
@@ -139,7 +139,7 @@ docs_same {B} {strict} {least} {vs} {ds} d full last n g = go (differences_rise 
     go false e = rw (← d.question, e)
 
 -- frequencies in places of 32 bits: question 7 and what follows it
-freqs_same : {B : Type 0} (fs : List ℕ) → AllBelow (2 ^ 32 + 1) fs → (n : ℕ) (g : List ℕ → Outcome B)
+freqs_same : {B : Type 0} (fs : List ℕ) → AllBelow (2 ^ 32 + 1) fs → (n : Refusal) (g : List ℕ → Outcome B)
     → (ask (not (member 0 (map (λ f. f % 2 ^ 32) fs))) n λ _. g (map (λ f. f % 2 ^ 32) fs)) ≡ (ask (countable fs) n λ _. g fs)
 unfolding ask
 freqs_same {B} fs small n g = go (countable fs) refl
@@ -237,7 +237,7 @@ module _ (e : BlockInfo) (kept : Bool) (unpacked : ℕ) (bs : List ℕ) where
       let vs : List ℕ = unpack e.freq_width (drop (16 * e.doc_width) bs) in
       let below : AllBelow (2 ^ 32) vs = AllBelow-le vs (pow-le-pow_right {n = 2} (omega arith) {i = e.freq_width} {j = 32} narrow) (unpack-below _ _) in
       rw (all (map (with_more_of (reduction e.strict)) vs) (length-map vs _ ∙ unpack-length _ _), with_more_lem e.strict vs, full_freqs-read e bs)
-      (freqs_same (restored e.strict vs) (restored-below e.strict (2 ^ 32) vs below) freq_out_of_range ok)
+      (freqs_same (restored e.strict vs) (restored-below e.strict (2 ^ 32) vs below) FreqOutOfRange Ok)
 
   pub asked-full : (least : ℕ) (nonzero read : Bool) (freqs : List ℕ) → asked_freqs (full_taken_of e nonzero kept unpacked) freqs ≡ full_freqs read e bs
       → asked (full_taken_of e nonzero kept unpacked) least (full_differences e.strict least (unpack e.doc_width bs)) freqs ≡ full_block read least e bs
@@ -245,8 +245,8 @@ module _ (e : BlockInfo) (kept : Bool) (unpacked : ℕ) (bs : List ℕ) where
   asked-full least nonzero read freqs h =
       let vs : List ℕ = unpack e.doc_width bs in
       rw (asked_is, all (full_differences e.strict least vs) (length-full_differences e.strict least vs ∙ unpack-length _ _), h, full_block-is, full_docs-is)
-      (docs_same (differ_full e.strict least vs) true e.last_doc docs_not_rising
-      (λ ds. and_then (full_freqs read e bs) λ fs. ok (record { docs = ds; freqs = fs; last = e.last_doc })))
+      (docs_same (differ_full e.strict least vs) true e.last_doc DocsNotRising
+      (λ ds. and_then (full_freqs read e bs) λ fs. Ok (record { docs = ds; freqs = fs; last = e.last_doc })))
 
 -- ---- a tail
 
@@ -289,8 +289,8 @@ module _ (n unpacked : ℕ) where
         let vs : List ℕ = (tail_numbers n bs).values in
         let rest : List ℕ = drop (tail_numbers n bs).used bs in
         rw (asked_is, tail_block-is, numbers-is, there, is, h, ← and-true (rising least (ids false least vs)))
-        (docs_same (differ_plain least vs) false TERMINATED docs_not_rising
-        (λ ds. and_then (tail_freqs (tail_has_freq option alone n rest) wanted n rest) λ fs. ok (record { docs = ds; freqs = fs; last = TERMINATED })))
+        (docs_same (differ_plain least vs) false TERMINATED DocsNotRising
+        (λ ds. and_then (tail_freqs (tail_has_freq option alone n rest) wanted n rest) λ fs. Ok (record { docs = ds; freqs = fs; last = TERMINATED })))
 
 -- ---- a block that was found
 
@@ -308,19 +308,19 @@ module _ (t : Term) (l : Layout) (bs : List ℕ) (f : Found) where
 -- ---- what is known of numbers that were read, by the place behind them
 
 module _ (at : ℕ) (ns : Numbers) where
-  pub numbers-there : {p : ℕ} → At p ≡ behind at ns → (ns.complete ≡ true) × (p ≡ at + ns.used)
+  pub numbers-there : {p : ℕ} → Some p ≡ behind at ns → (ns.complete ≡ true) × (p ≡ at + ns.used)
   unfolding behind choose
   numbers-there {p} e = go ns.complete e
     where
-      go : (t : Bool) → At p ≡ choose t (λ _. At (at + ns.used)) (λ _. Refused) → (t ≡ true) × (p ≡ at + ns.used)
+      go : (t : Bool) → Some p ≡ choose t (λ _. Some (at + ns.used)) (λ _. None) → (t ≡ true) × (p ≡ at + ns.used)
       go true e = (refl, cc)
       go false e = absurd (let z : ◌≡◌ {A = ℕ} 0 1 = cc in omega arith)
 
-  pub numbers-short : Refused ≡ behind at ns → ns.complete ≡ false
+  pub numbers-short : None ≡ behind at ns → ns.complete ≡ false
   unfolding behind choose
   numbers-short e = go ns.complete e
     where
-      go : (t : Bool) → Refused ≡ choose t (λ _. At (at + ns.used)) (λ _. Refused) → t ≡ false
+      go : (t : Bool) → None ≡ choose t (λ _. Some (at + ns.used)) (λ _. None) → t ≡ false
       go true e = absurd (let z : ◌≡◌ {A = ℕ} 0 1 = cc in omega arith)
       go false e = refl
 

@@ -3,7 +3,7 @@
 -- there, and one that was taken whole. That no value is 0 where form and width rule it out: BlockQuestions.antt `more-small` (below 2 ^ 31
 -- what is added doesn't wrap) and `strict_nonzero`.
 -- Assumes nothing.
-use Rattle.std.specs.Prelude.{◌≡◌, ℕ, ◌+◌, ◌-◌, ◌*◌, ◌%◌, ◌^◌, ◌<◌, ◌≤◌, Bool, true, false, ◌&&◌ as and, eqb, ltb, List, ◌++◌, map, length, take, drop, replicate}
+use Rattle.std.specs.Prelude.{◌≡◌, ℕ, ◌+◌, ◌-◌, ◌*◌, ◌%◌, ◌^◌, ◌<◌, ◌≤◌, Bool, true, false, ◌&&◌ as and, eqb, ltb, List, ◌++◌, map, length, take, drop, replicate, None, Some}
 use mathlib.Core.Path.{refl, sym, ap, ◌∙◌}
 use mathlib.Core.Bool.{false≢true}
 use native.Mathlib.Nat.{le_refl, le_of_eq, mod-lt, pow-le-pow_right}
@@ -13,7 +13,6 @@ use lib.ListN.{length-append, length-drop, length-map, length-replicate, replica
 use lib.Seq.{length-take-le, take_all, take_at, drop_at, drop-drop}
 use borrow.Author.Tests.{le-leb, lt-ltb, le-ltb}
 use Rattle.format.specs.declared.Layout.{Layout}
-use Rattle.format.specs.declared.Next.TheVariants.{At, Refused}
 use Rattle.format.specs.declared.Term.{Term}
 use Rattle.format.specs.Basics.{choose, TERMINATED, AllBelow}
 use Rattle.format.specs.Bitpacking.{unpack}
@@ -203,7 +202,7 @@ module _ (t : Term) (l : Layout) (bs : List ℕ) (f : Found) (unpacked : ℕ) wh
     ones-some : (nonzero : Bool) → nonzero ≡ true → member 0 (take n ones) ≡ false
     ones-some nonzero e = rw ones-front (ones_nonzero n)
 
-    pub tail_broken : (docs : List ℕ) → Refused ≡ behind f.at (tail_numbers (length (take n (replicate 128 TERMINATED))) (drop f.at bs))
+    pub tail_broken : (docs : List ℕ) → None ≡ behind f.at (tail_numbers (length (take n (replicate 128 TERMINATED))) (drop f.at bs))
         → ValuesTaken t l bs f unpacked docs ones (tail_taken_of n false true true true false (unpacked + 1))
     tail_broken docs answer =
         tail false true true true false (λ no. absurd (false≢true no)) (λ no. absurd (false≢true no)) ones-up (ones-some true) (λ no. absurd (false≢true no))
@@ -211,7 +210,7 @@ module _ (t : Term) (l : Layout) (bs : List ℕ) (f : Found) (unpacked : ℕ) wh
         (numbers-short f.at numbers (rw (front-many t TERMINATED) at answer)))
 
     -- the ids' numbers are there, and the bytes behind them begin at place p; what was read is left with its first as a difference
-    module _ (p : ℕ) (left : List ℕ) (answer : At p ≡ behind f.at (tail_numbers (length (take n (replicate 128 TERMINATED))) (drop f.at bs)))
+    module _ (p : ℕ) (left : List ℕ) (answer : Some p ≡ behind f.at (tail_numbers (length (take n (replicate 128 TERMINATED))) (drop f.at bs)))
         (left_is : left ≡ filled (tail_numbers (length (take n (replicate 128 TERMINATED))) (drop f.at bs)) (take n (replicate 128 TERMINATED))) where
       there : (numbers.complete ≡ true) × (p ≡ f.at + numbers.used)
       there = numbers-there f.at numbers (rw (front-many t TERMINATED) at answer)
@@ -267,14 +266,14 @@ module _ (t : Term) (l : Layout) (bs : List ℕ) (f : Found) (unpacked : ℕ) wh
               (rw (le-ltb 0 t.requested (le_of_eq none)) (tail_unwanted n (unpacked + 1) true keeps (drop p bs) ones ones-front))
 
           module _ (wanted : 0 < t.requested) where
-            pub tail-freqs_broken : Refused ≡ behind p (tail_numbers (length (take n ones)) (drop p bs))
+            pub tail-freqs_broken : None ≡ behind p (tail_numbers (length (take n ones)) (drop p bs))
                 → ValuesTaken t l bs f unpacked docs ones (tail_taken_of n true false true true keeps (unpacked + 1))
             tail-freqs_broken answer' =
                 whole true false true true has ones-up (ones-some true)
                 (rw (lt-ltb 0 t.requested wanted)
                 (tail-short n (unpacked + 1) true keeps (drop p bs) ones (numbers-short p _ (rw (front-many t 1) at answer'))))
 
-            pub tail_with : (q : ℕ) (left' : List ℕ) → At q ≡ behind p (tail_numbers (length (take n ones)) (drop p bs))
+            pub tail_with : (q : ℕ) (left' : List ℕ) → Some q ≡ behind p (tail_numbers (length (take n ones)) (drop p bs))
                 → left' ≡ filled (tail_numbers (length (take n ones)) (drop p bs)) (take n ones)
                 → ValuesTaken t l bs f unpacked docs (left' ++ drop n ones)
                 (tail_taken_of n true true false (eqb (length (drop q bs)) 0) keeps (unpacked + 1))

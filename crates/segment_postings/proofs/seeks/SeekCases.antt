@@ -1,17 +1,16 @@
 -- A seek, and the rank that a fresh cursor's seek finds: one law for each way through the tests.
 -- Assumes nothing.
-use Rattle.std.specs.Prelude.{◌≡◌, ℕ, ◌+◌, ◌*◌, ◌/◌, ◌<◌, ◌≤◌, Bool, true, false, ◌&&◌ as and, eqb, ltb, leb, List, length, get_or}
+use Rattle.format.specs.declared.refusal.Refusal.{Refusal}
+use Rattle.format.specs.declared.refusal.Refusal.TheVariants.{TargetTooLarge, StateBroken}
+use Rattle.std.specs.Prelude.{◌≡◌, ℕ, ◌+◌, ◌*◌, ◌/◌, ◌<◌, ◌≤◌, Bool, true, false, ◌&&◌ as and, eqb, ltb, leb, List, length, get_or, Ok, Err}
 use mathlib.Core.Bool.{and-eq-true_iff}
 use mathlib.Core.Path.{refl}
 use borrow.Author.Tests.{leb-true, ltb-true, le-leb, lt-leb, lt-ltb, le-ltb}
 use Rattle.format.specs.declared.Term.{Term}
-use Rattle.format.specs.Basics.{Outcome, ok, refused, and_then, ask, choose, TERMINATED, or_before}
-use Rattle.format.specs.Refusal.{target_too_large, state_broken}
+use Rattle.format.specs.Basics.{Outcome, and_then, ask, choose, TERMINATED, or_before}
 use Rattle.format.specs.Layout.{full_blocks_of}
 use Rattle.block_search.specs.Search.{search_block_of}
 use Rattle.segment_postings.specs.declared.Held.{Held}
-use Rattle.segment_postings.specs.declared.Reached.{Reached}
-use Rattle.segment_postings.specs.declared.Reached.TheVariants as reached-as
 use Rattle.segment_postings.specs.declared.SegmentPostings.{SegmentPostings}
 use Rattle.segment_postings.specs.Cursor.{in_bounds_of, position, opening, held_at, at_place, leaving, place_of, within, behind, seeking, seeking_fresh, ranking}
 use Rattle.segment_postings.specs.Calls.{cursor_of, reached, Reaches}
@@ -20,21 +19,21 @@ use Rattle.segment_postings.proofs.Laws.CursorTurns.{behind-is, seeking-is, seek
 
 -- ---- what follows a call on lent arrays
 
-module _ {o : Outcome SegmentPostings} {docs freqs docs' freqs' : List ℕ} {r : Reached} (k : Reaches o docs freqs docs' freqs' r) where
+module _ {o : Outcome SegmentPostings} {docs freqs docs' freqs' : List ℕ} {r : Outcome Held} (k : Reaches o docs freqs docs' freqs' r) where
   -- nothing, where it was refused
-  pub then_nowhere : (f : SegmentPostings → Outcome SegmentPostings) {n : ℕ} → r ≡ reached-as.Refused n
-      → Reaches (and_then o f) docs freqs docs' freqs' (reached-as.Refused n)
+  pub then_nowhere : (f : SegmentPostings → Outcome SegmentPostings) {n : Refusal} → r ≡ Err n
+      → Reaches (and_then o f) docs freqs docs' freqs' (Err n)
   unfolding and_then reached or_before
   then_nowhere f e =
       let none = reached_nowhere k e in
       record { answer = rw none; docs_after = rw none (rw none at k.docs_after); freqs_after = rw none (rw none at k.freqs_after) }
 
   -- the target's place in the block that it came to
-  pub then_placed : (target : ℕ) {h h' : Held} {p : ℕ} → r ≡ reached-as.At h → p ≡ search_block_of docs' target
-      → h' ≡ held_at h p → Reaches (and_then o λ landed. ok (at_place landed (place_of landed target))) docs freqs docs' freqs' (reached-as.At h')
+  pub then_placed : (target : ℕ) {h h' : Held} {p : ℕ} → r ≡ Ok h → p ≡ search_block_of docs' target
+      → h' ≡ held_at h p → Reaches (and_then o λ landed. Ok (at_place landed (place_of landed target))) docs freqs docs' freqs' (Ok h')
   unfolding and_then place_of at_place reached or_before
   then_placed target {h' = h'} e place same =
-      reaches_as {o' = ok (cursor_of h' docs' freqs')} (rw (reached-at k e, same, place))
+      reaches_as {o' = Ok (cursor_of h' docs' freqs')} (rw (reached-at k e, same, place))
       (record { answer = refl; docs_after = refl; freqs_after = refl })
 
 -- ---- in the held block
@@ -66,55 +65,55 @@ module _ (c : SegmentPostings) (t : Term) (target : ℕ) where
         counted = leb-true _ _ reaches.1;
       }
 
-  pub within-is : within c t target ≡ ask (tests (place_of c target)) state_broken λ _. ok (at_place c (place_of c target))
+  pub within-is : within c t target ≡ ask (tests (place_of c target)) StateBroken λ _. Ok (at_place c (place_of c target))
   unfolding within
   within-is = refl
 
   module _ {p : ℕ} (place : p ≡ place_of c target) where
-    pub within-there : MayHold t c target p → within c t target ≡ ok (at_place c p)
+    pub within-there : MayHold t c target p → within c t target ≡ Ok (at_place c p)
     unfolding ask
     within-there k =
         rw (within-is, ← place, lt-ltb _ _ k.ahead, lt-ltb _ _ k.inside, le-leb _ _ k.reaches, le-leb _ _ k.counted)
 
-    pub within_none : (MayHold t c target p → ⊥) → within c t target ≡ refused state_broken
+    pub within_none : (MayHold t c target p → ⊥) → within c t target ≡ Err StateBroken
     unfolding ask
     within_none never = rw (within-is, ← place) (go (tests p) refl)
       where
-        go : (r : Bool) → tests p ≡ r → ask r state_broken (λ _. ok (at_place c p)) ≡ refused state_broken
+        go : (r : Bool) → tests p ≡ r → ask r StateBroken (λ _. Ok (at_place c p)) ≡ Err StateBroken
         go true e = absurd (never (tested e))
         go false e = refl
 
 -- ---- behind it
 
 module _ (c : SegmentPostings) (bs : List ℕ) (t : Term) (target : ℕ) where
-  pub behind-tail : t.count / 128 ≤ c.held.block → behind c bs t target ≡ refused state_broken
+  pub behind-tail : t.count / 128 ≤ c.held.block → behind c bs t target ≡ Err StateBroken
   unfolding ask full_blocks_of
   behind-tail h = rw (behind-is, le-ltb _ _ h)
 
   pub behind-full : c.held.block < t.count / 128
-      → behind c bs t target ≡ and_then (leaving c.held bs t target) λ landed. ok (at_place landed (place_of landed target))
+      → behind c bs t target ≡ and_then (leaving c.held bs t target) λ landed. Ok (at_place landed (place_of landed target))
   unfolding ask full_blocks_of
   behind-full h = rw (behind-is, lt-ltb _ _ h)
 
 -- ---- a seek
 
 module _ (c : SegmentPostings) (bs : List ℕ) (t : Term) (target : ℕ) where
-  pub seeking_broken : in_bounds_of t (length bs) c.held ≡ false → seeking c bs t target ≡ refused state_broken
+  pub seeking_broken : in_bounds_of t (length bs) c.held ≡ false → seeking c bs t target ≡ Err StateBroken
   unfolding ask
   seeking_broken e = rw (seeking-is, e)
 
   module _ (in_bounds : in_bounds_of t (length bs) c.held ≡ true) where
-    pub seeking-ended : eqb (position c.held) t.count ≡ true → seeking c bs t target ≡ ok c
+    pub seeking-ended : eqb (position c.held) t.count ≡ true → seeking c bs t target ≡ Ok c
     unfolding ask choose
     seeking-ended e = rw (seeking-is, in_bounds, e)
 
     module _ (before : eqb (position c.held) t.count ≡ false) where
-      pub seeking_too_large : TERMINATED < target → seeking c bs t target ≡ refused target_too_large
+      pub seeking_too_large : TERMINATED < target → seeking c bs t target ≡ Err TargetTooLarge
       unfolding ask choose
       seeking_too_large h = rw (seeking-is, in_bounds, before, lt-leb _ _ h)
 
       module _ (small : target ≤ TERMINATED) where
-        pub seeking-stays : target ≤ get_or c.docs c.held.place 0 → seeking c bs t target ≡ ok c
+        pub seeking-stays : target ≤ get_or c.docs c.held.place 0 → seeking c bs t target ≡ Ok c
         unfolding ask choose
         seeking-stays h = rw (seeking-is, in_bounds, before, le-leb _ _ small, le-leb _ _ h)
 
@@ -130,11 +129,11 @@ module _ (c : SegmentPostings) (bs : List ℕ) (t : Term) (target : ℕ) where
 -- ---- a fresh cursor's seek, and the rank
 
 module _ (bs : List ℕ) (t : Term) (target : ℕ) where
-  pub fresh_unopened : {n : ℕ} → opening bs t ≡ refused n → seeking_fresh bs t target ≡ refused n
+  pub fresh_unopened : {n : Refusal} → opening bs t ≡ Err n → seeking_fresh bs t target ≡ Err n
   unfolding and_then
   fresh_unopened e = rw (seeking_fresh-is, e)
 
-  pub fresh-opened : {c : SegmentPostings} → opening bs t ≡ ok c → seeking_fresh bs t target ≡ seeking c bs t target
+  pub fresh-opened : {c : SegmentPostings} → opening bs t ≡ Ok c → seeking_fresh bs t target ≡ seeking c bs t target
   unfolding and_then
   fresh-opened e = rw (seeking_fresh-is, e)
 
@@ -143,20 +142,20 @@ module _ (mode count : ℕ) (bs : List ℕ) (target : ℕ) where
   term = record { mode = mode; requested = 0; count = count }
 
   pub ranking-is : ranking mode count bs target
-      ≡ (ask (leb target TERMINATED) target_too_large λ _.
-      and_then (seeking_fresh bs term target) λ c. ok (position c.held))
+      ≡ (ask (leb target TERMINATED) TargetTooLarge λ _.
+      and_then (seeking_fresh bs term target) λ c. Ok (position c.held))
   unfolding ranking
   ranking-is = refl
 
-  pub ranking_too_large : TERMINATED < target → ranking mode count bs target ≡ refused target_too_large
+  pub ranking_too_large : TERMINATED < target → ranking mode count bs target ≡ Err TargetTooLarge
   unfolding ask
   ranking_too_large h = rw (ranking-is, lt-leb _ _ h)
 
   module _ (small : target ≤ TERMINATED) where
-    pub ranking-none : {n : ℕ} → seeking_fresh bs term target ≡ refused n → ranking mode count bs target ≡ refused n
+    pub ranking-none : {n : Refusal} → seeking_fresh bs term target ≡ Err n → ranking mode count bs target ≡ Err n
     unfolding ask and_then
     ranking-none e = rw (ranking-is, le-leb _ _ small, e)
 
-    pub ranking-found : {c : SegmentPostings} → seeking_fresh bs term target ≡ ok c → ranking mode count bs target ≡ ok (128 * c.held.block + c.held.place)
+    pub ranking-found : {c : SegmentPostings} → seeking_fresh bs term target ≡ Ok c → ranking mode count bs target ≡ Ok (128 * c.held.block + c.held.place)
     unfolding ask and_then position
     ranking-found e = rw (ranking-is, le-leb _ _ small, e)

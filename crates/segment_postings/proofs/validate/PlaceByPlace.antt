@@ -67,34 +67,38 @@ ends-full full last least f h = eqb-true _ _ (rw f at h)
 
 -- ---- frequencies
 
--- one of all that were taken is 0 where one of those still to come is
-pub record ZeroToCome (k : Taken) (freqs rest : List ℕ) : Type 0 where
-  pub same : member 0 (take k.n freqs) ≡ member 0 rest
-
 pub freqs_to_ask_of-most : (k : Taken) → freqs_to_ask_of k ≤ k.n
 unfolding freqs_to_ask_of
 freqs_to_ask_of-most k = choose_elim (λ n. n ≤ k.n) k.freqs_nonzero _ _ (λ _. zero-le) (λ _. le_refl _)
 
-pub to_come_first : (k : Taken) (freqs : List ℕ) → (k.freqs_nonzero ≡ true → member 0 (take k.n freqs) ≡ false)
-    → ZeroToCome k freqs (take (freqs_to_ask_of k) freqs)
+-- one of all that were taken is 0 where one of those that are asked is
+pub asked-all : (k : Taken) (freqs : List ℕ) → (k.freqs_nonzero ≡ true → member 0 (take k.n freqs) ≡ false)
+    → member 0 (take k.n freqs) ≡ member 0 (take (freqs_to_ask_of k) freqs)
 unfolding freqs_to_ask_of choose member
-to_come_first k freqs known = record { same = go k.freqs_nonzero refl }
+asked-all k freqs known = go k.freqs_nonzero refl
   where
     go : (t : Bool) → k.freqs_nonzero ≡ t → member 0 (take k.n freqs) ≡ member 0 (take (choose t (λ _. 0) (λ _. k.n)) freqs)
     go true e = known e
     go false e = refl
 
+-- one of these is 0 where one of those still to come is
+pub record ZeroToCome (fs rest : List ℕ) : Type 0 where
+  pub same : member 0 fs ≡ member 0 rest
+
+pub to_come_first : (fs : List ℕ) → ZeroToCome fs fs
+to_come_first fs = record { same = refl }
+
 -- a frequency more, which is or isn't 0
-module _ (k : Taken) (freqs : List ℕ) (f : ℕ) (rest : List ℕ) (c : ZeroToCome k freqs (f ∷ rest)) where
-  pub to_come_next : (f ≡ 0 → ⊥) → ZeroToCome k freqs rest
+module _ (fs : List ℕ) (f : ℕ) (rest : List ℕ) (c : ZeroToCome fs (f ∷ rest)) where
+  pub to_come_next : (f ≡ 0 → ⊥) → ZeroToCome fs rest
   unfolding member
   to_come_next some = record { same = c.same ∙ rw (ne_eqb 0 f (λ e. some (sym e))) }
 
-  pub to_come_zero : f ≡ 0 → member 0 (take k.n freqs) ≡ true
+  pub to_come_zero : f ≡ 0 → member 0 fs ≡ true
   unfolding member
   to_come_zero none = c.same ∙ rw none
 
 -- none is left
-pub to_come_none : (k : Taken) (freqs : List ℕ) → ZeroToCome k freqs [] → member 0 (take k.n freqs) ≡ false
+pub to_come_none : (fs : List ℕ) → ZeroToCome fs [] → member 0 fs ≡ false
 unfolding member
-to_come_none k freqs c = c.same
+to_come_none fs c = c.same

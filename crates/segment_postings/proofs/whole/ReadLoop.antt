@@ -2,17 +2,19 @@
 -- into the slices as they were, is what is read from the next block on, put behind the blocks written. No block is refused, since the
 -- image isn't.
 -- Assumes nothing.
-use Rattle.std.specs.Prelude.{◌≡◌, ℕ, ◌+◌, ◌*◌, ◌<◌, ◌≤◌, List, [], ◌++◌, length, take}
+use Rattle.format.specs.declared.refusal.Refusal.{Refusal}
+use Rattle.std.specs.Prelude.{◌≡◌, ℕ, ◌+◌, ◌*◌, ◌<◌, ◌≤◌, List, [], ◌++◌, length, take, Ok, Err}
 use mathlib.Core.List.{append-nil}
 use mathlib.Core.Path.{refl, sym, ap, ◌∙◌}
 use native.Mathlib.Omega.{arith}
 use lib.Seq.{paste, length-take-le, take-length}
 use Rattle.format.specs.declared.Layout.{Layout}
 use Rattle.format.specs.declared.Term.{Term}
-use Rattle.format.specs.Basics.{ok, refused, put_at}
+use Rattle.format.specs.Basics.{put_at}
 use Rattle.format.specs.Layout.{full_blocks_of}
 use Rattle.format.specs.Reading.{Reading, nothing, before, reading, docs_of, freqs_of}
 use Rattle.format.proofs.Area.{put_at-paste, put_at-append, fits-front, fits-back, length-put_at}
+use Rattle.format.proofs.Outcome.{refused≢ok}
 use Rattle.format.proofs.Blocks.{docs_many, freqs_many}
 use Rattle.format.proofs.Sound.{sound-image, sound-blocks, whole-count}
 use Rattle.segment_postings.specs.declared.Held.{Held}
@@ -64,7 +66,7 @@ pub record Copied (t : Term) (l : Layout) (bs docs₀ freqs₀ : List ℕ) (s : 
   pub walks : WalksFrom t l bs s
   pub docs_same : length docs ≡ length docs₀
   pub freqs_same : length freqs ≡ length freqs₀
-  sound : (reading_from t l bs s).refusal ≡ 0
+  sound : (reading_from t l bs s).verdict ≡ Ok tt
   docs_filled : Filled (docs_of (reading t bs).blocks) (docs_of (reading_from t l bs s).blocks) s.block docs₀ docs
   freqs_filled : Filled (freqs_of (reading t bs).blocks) (freqs_of (reading_from t l bs s).blocks) s.block freqs₀ freqs
 
@@ -87,15 +89,15 @@ copied_none t l bs docs freqs {s} w is =
 module _ {t : Term} {l : Layout} {bs docs₀ freqs₀ : List ℕ} {s : Start} {docs freqs : List ℕ}
     (w : Copied t l bs docs₀ freqs₀ s docs freqs) where
   -- no block is refused
-  pub never_refused : {n : ℕ} → landing t bs l 0 s ≡ refused n → ⊥
+  pub never_refused : {n : Refusal} → landing t bs l 0 s ≡ Err n → ⊥
   unfolding nothing
   never_refused e =
       let none = turn-none t l bs w.walks e in
-      omega (arith, w.sound, ap (λ (r : Reading). r.refusal) none.reads, none.numbered)
+      refused≢ok (sym (ap (λ (r : Reading). r.verdict) none) ∙ w.sound)
 
   module _ {h : Held} {ids counts : List ℕ} (k : BlockHeld t l bs s.block s.at s.least h ids counts) where
-    module _ (rest : Reading) (e : reading_from t l bs s ≡ (before (ok k.block) λ _. rest)) where
-      sound-behind : rest.refusal ≡ 0
+    module _ (rest : Reading) (e : reading_from t l bs s ≡ (before (Ok k.block) λ _. rest)) where
+      sound-behind : rest.verdict ≡ Ok tt
       unfolding before
       sound-behind = rw e at w.sound
 

@@ -1,18 +1,20 @@
 -- `segment_postings::arrays::land` meets its contract: a landing is the block found, unpacked.
 -- Assumes nothing.
 use Rattle.std.proofs.Common.{sym}
+use Rattle.segment_postings.proofs.Laws.Exits.{passed_on}
 use Rattle.segment_postings.proofs.find.FoundBlock.{found-there}
-use Rattle.segment_postings.proofs.Laws.LandingParts.{searched_to, searched-refused, lands_as, none-lands, landing-found, landing-refused}
+use Rattle.segment_postings.proofs.Laws.LandingParts.{lands_as, none-lands, landing-found, landing-refused}
 use Rattle.segment_postings.proofs.arrays.land.Goals as goal
 
 pub unpack_found-requires : goal.unpack_found-requires
 unpack_found-requires c = (
-  found-there _ _ _ _ _ c.requires.0 (searched_to _ (sym c.in-To.ensures)),
+  found-there _ _ _ _ _ c.requires.0 (sym c.in_ok-found.ensures),
   c.requires.1,
 )
 
-pub returns-in-To : goal.returns-in-To
-returns-in-To c = lands_as (landing-found _ _ _ _ _ (searched_to _ (sym c.in-To.ensures))) c.unpack_found.ensures
+pub returns : goal.returns
+returns c = lands_as (landing-found _ _ _ _ _ (sym c.in_ok-found.ensures)) c.unpack_found.ensures
 
-pub returns-in-Refused : goal.returns-in-Refused
-returns-in-Refused c = none-lands _ _ (landing-refused _ _ _ _ _ (searched-refused _ (sym c.in-Refused.ensures)))
+pub returns-in_err-found : goal.returns-in_err-found
+returns-in_err-found c =
+    rw (passed_on c.from_residual.ensures.1) (none-lands _ _ (landing-refused _ _ _ _ _ (sym c.in_err-found.ensures)))

@@ -14,7 +14,6 @@ use Rattle.format.proofs.SkipEntry.{size-most}
 use Rattle.segment_postings.specs.declared.find.Found.{Found}
 use Rattle.segment_postings.specs.declared.find.Start.{Start}
 use Rattle.segment_postings.specs.Landing.{find_block_of}
-use Rattle.segment_postings.specs.Private.{searched}
 use Rattle.segment_postings.proofs.layout.SplitParts.{LaidOut, laid_out, entry-inside}
 use Rattle.segment_postings.proofs.find.FoundBlock.{passed, entry_of, find_broken, find_here, find_on, find_end}
 use Rattle.segment_postings.proofs.find.find_block.Goals as goal
@@ -27,9 +26,9 @@ module _ (t : Term) (l : Layout) (bs : List ℕ) where
   -- what is answered where the search from the present block on comes to it
   come_to : {o : Outcome Found} (target full : ℕ) (from here : Start) → full ≡ full_blocks_of t
       → search_from target full from ≡ search_from target full here → search_from target full here ≡ o
-      → searched o ≡ searched (search_from target (full_blocks_of t) from)
+      → o ≡ search_from target (full_blocks_of t) from
   come_to target full from here count same e =
-      sym (ap searched (ap (λ n. search_from target n from) (sym count) ∙ same ∙ e))
+      sym (ap (λ n. search_from target n from) (sym count) ∙ same ∙ e)
 
   module _ (size entry b : ℕ) (sized : size ≡ entry_size_of l.option) (at : entry ≡ size * b) where
     place : entry_size_of l.option * b ≡ entry
@@ -72,7 +71,7 @@ entry_at-info-requires c =
     (omega arith)
 
 pub returns-then-not-entry_fits : goal.returns-then-not-entry_fits
-unfolding searched skip_bytes_of full_blocks_of
+unfolding skip_bytes_of full_blocks_of
 returns-then-not-entry_fits c =
     let a = c.args in
     let l = c.loop-block in
@@ -85,7 +84,7 @@ pub overflow_add-entries : goal.overflow_add-entries
 overflow_add-entries c = omega arith
 
 pub returns-then-target-info : goal.returns-then-target-info
-unfolding searched skip_bytes_of full_blocks_of
+unfolding skip_bytes_of full_blocks_of
 returns-then-target-info c =
     let a = c.args in
     let l = c.loop-block in
@@ -125,10 +124,12 @@ loop-block-preserved c =
     }
 
 pub returns : goal.returns
-unfolding searched skip_bytes_of full_blocks_of
+unfolding skip_bytes_of full_blocks_of
 returns c =
     let a = c.args in
     let l = c.loop-block in
-    come_to a.term a.layout a.image.now a.target _ a.from _ c.full_blocks-blocks.ensures l.invariant.goes_on
+    let last : l.block ≡ c.full_blocks-blocks.result = omega (arith, c.requires.block_most_is, c.full_blocks-blocks.ensures) in
+    rw (← last)
+    (come_to a.term a.layout a.image.now a.target _ a.from _ c.full_blocks-blocks.ensures l.invariant.goes_on
     (find_end _ _ _ _ _ (record { block = l.block; at = l.at; least = l.least; entries = l.entries; unpacked = a.from.unpacked }) _
-    c.loop-block-test.false c.tail_info.ensures)
+    c.loop-block-test.false c.tail_info.ensures))

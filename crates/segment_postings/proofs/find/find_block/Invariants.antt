@@ -1,5 +1,5 @@
 -- The search from the present block on gives what the search from the first gives, the present entry stands at its place of the skip
--- bytes, and the block's bytes begin inside the image. The measure is the blocks left.
+-- bytes, and the block's bytes begin inside the image.
 use Rattle.std.proofs.Common.{◌≡◌, ◌-◌, ◌*◌, ◌≤◌, length}
 use Rattle.segment_postings.specs.Landing.{find_block_of}
 use Rattle.segment_postings.proofs.find.find_block.Given as goal
@@ -14,6 +14,3 @@ invariant-loop-block l = record {
   inside : l.at ≤ length l.image;
   counted : l.entries ≤ l.block;
 }
-
-abbrev pub decreases-loop-block : goal.decreases-loop-block
-decreases-loop-block l = l.blocks - l.block

@@ -8,7 +8,6 @@ use Rattle.format.specs.Basics.{ask}
 use Rattle.format.specs.Layout.{full_blocks_of}
 use Rattle.format.proofs.Opened.{sized-is}
 use Rattle.format.proofs.SkipEntry.{size-most}
-use Rattle.segment_postings.specs.Private.{laid}
 use Rattle.segment_postings.proofs.layout.lay_out_entries.Goals as goal
 
 pub overflow_mul-entry_size : goal.overflow_mul-entry_size
@@ -17,12 +16,12 @@ overflow_mul-entry_size c =
     (omega (arith, mul-le-mul_right c.full_blocks-blocks.result (size-most c.record_option-option.result)))
 
 pub returns-then-size-entry_size : goal.returns-then-size-entry_size
-unfolding ask laid full_blocks_of
+unfolding ask full_blocks_of
 returns-then-size-entry_size c =
     rw (sized-is, ← c.full_blocks-blocks.ensures, ← c.record_option-option.ensures, ← c.entry_size.ensures, ne_eqb _ _ c.if-size-entry_size.true)
 
 pub returns : goal.returns
-unfolding ask laid full_blocks_of
+unfolding ask full_blocks_of
 returns c =
-    let whole : c.args.skips + (c.args.postings - c.args.skips) ≡ c.args.postings = omega arith in
+    let whole : c.args.split.skips + (c.args.split.postings - c.args.split.skips) ≡ c.args.split.postings = omega arith in
     rw (sized-is, ← c.full_blocks-blocks.ensures, ← c.record_option-option.ensures, ← c.entry_size.ensures, eq-eqb _ _ c.if-size-entry_size.false, whole)

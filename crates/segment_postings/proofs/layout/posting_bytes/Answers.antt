@@ -9,17 +9,17 @@ use Rattle.segment_postings.proofs.layout.SplitParts.{split_places, postings_at_
 use Rattle.segment_postings.proofs.layout.posting_bytes.Goals as goal
 
 pub slice_bounds-result-count : goal.slice_bounds-result-count
-slice_bounds-result-count c = (split_places _ c.args.image.now (sym c.in-At.ensures)).1
+slice_bounds-result-count c = (split_places _ c.args.image.now (sym c.in-Ok.ensures)).1
 
 pub slice_bounds-result-start : goal.slice_bounds-result-start
-slice_bounds-result-start c = (split_places _ c.args.image.now (sym c.in-At.ensures)).1
+slice_bounds-result-start c = (split_places _ c.args.image.now (sym c.in-Ok.ensures)).1
 
-pub returns-in-At : goal.returns-in-At
+pub returns-in-Ok : goal.returns-in-Ok
 unfolding part_of
-returns-in-At c =
+returns-in-Ok c =
     let bs = c.args.image.now in
-    take_all _ _ (le_of_eq (length-drop c.in-At.postings bs)) ∙ postings_at_is _ bs (sym c.in-At.ensures)
+    take_all _ _ (le_of_eq (length-drop c.in-Ok.split.postings bs)) ∙ postings_at_is _ bs (sym c.in-Ok.ensures)
 
-pub returns-in-Broken : goal.returns-in-Broken
+pub returns-in-Err : goal.returns-in-Err
 unfolding part_of
-returns-in-Broken c = postings_at_is _ c.args.image.now (sym c.in-Broken.ensures)
+returns-in-Err c = postings_at_is _ c.args.image.now (sym c.in-Err.ensures)

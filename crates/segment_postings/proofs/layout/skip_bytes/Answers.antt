@@ -6,18 +6,18 @@ use Rattle.segment_postings.proofs.layout.SplitParts.{split_places, skips_at_is}
 use Rattle.segment_postings.proofs.layout.skip_bytes.Goals as goal
 
 pub slice_bounds-result-count : goal.slice_bounds-result-count
-slice_bounds-result-count c = (split_places _ c.args.image.now (sym c.in-At.ensures)).0
+slice_bounds-result-count c = (split_places _ c.args.image.now (sym c.in-Ok.ensures)).0
 
 pub slice_bounds-result-start : goal.slice_bounds-result-start
-slice_bounds-result-start c = (split_places _ c.args.image.now (sym c.in-At.ensures)).0
+slice_bounds-result-start c = (split_places _ c.args.image.now (sym c.in-Ok.ensures)).0
 
 pub slice_bounds-result-end : goal.slice_bounds-result-end
-slice_bounds-result-end c = (split_places _ c.args.image.now (sym c.in-At.ensures)).1
+slice_bounds-result-end c = (split_places _ c.args.image.now (sym c.in-Ok.ensures)).1
 
-pub returns-in-At : goal.returns-in-At
+pub returns-in-Ok : goal.returns-in-Ok
 unfolding part_of
-returns-in-At c = skips_at_is _ c.args.image.now (sym c.in-At.ensures)
+returns-in-Ok c = skips_at_is _ c.args.image.now (sym c.in-Ok.ensures)
 
-pub returns-in-Broken : goal.returns-in-Broken
+pub returns-in-Err : goal.returns-in-Err
 unfolding part_of
-returns-in-Broken c = skips_at_is _ c.args.image.now (sym c.in-Broken.ensures)
+returns-in-Err c = skips_at_is _ c.args.image.now (sym c.in-Err.ensures)

@@ -152,7 +152,7 @@ returns-then-found-blocks c =
 
 pub returns-in_default : goal.returns-in_default
 returns-in_default c =
-    told c.tail_taken.ensures
+    rw c.tail_taken.ensures
     (tail_broken c.args.term c.args.layout c.args.image.now c.args.found c.args.unpacked
     (past c.args.term c.args.found c.full_blocks-blocks.ensures c.if-found-blocks.false) _
     (sym c.in_default.is ∙ c.uncompress_unsorted.ensures.value))
@@ -161,59 +161,60 @@ pub returns-then-not-kept-2 : goal.returns-then-not-kept-2
 returns-then-not-kept-2 c =
     let n : ℕ = c.args.term.count % 128 in
     let ids : List ℕ = c.uncompress_unsorted.new.values ++ drop n (replicate 128 TERMINATED) in
-    let kept_is = keeps c.args.term c.args.layout (drop c.in-At.behind c.args.image.now) c.full_blocks-blocks.ensures c.keeps_freqs-kept.ensures in
-    let without : and (keeps_freqs_of c.args.layout.option (eqb (full_blocks_of c.args.term) 0) n (drop c.in-At.behind c.args.image.now)) (ltb 0 n) ≡ false
+    let kept_is = keeps c.args.term c.args.layout (drop c.in-Some.behind c.args.image.now) c.full_blocks-blocks.ensures c.keeps_freqs-kept.ensures in
+    let without : and (keeps_freqs_of c.args.layout.option (eqb (full_blocks_of c.args.term) 0) n (drop c.in-Some.behind c.args.image.now)) (ltb 0 n) ≡ false
     = elim c.then-not-kept-2.branch [
       | then-not-kept-2-via-then-not-kept-2 w ↦ unkept _ _ (sym kept_is ∙ w.if-not-kept-2.true)
       | then-not-kept-2-via-else-not-kept-2+then-n-eq0 w ↦ unasked _ _ w.if-n-eq0.true
     ] in
-    told
-    (c.tail_taken-then-not-kept-2.ensures
-    ∙ ap₂ (λ (end kept : Bool). tail_taken_of n true true true end kept (c.args.unpacked + 1)) c.none_left.ensures kept_is)
+    rw c.tail_taken-then-not-kept-2.ensures
+    (told
+    (ap₂ (λ (end kept : Bool). tail_taken_of n true true true end kept (c.args.unpacked + 1)) c.none_left.ensures kept_is)
     (tail_without c.args.term c.args.layout c.args.image.now c.args.found c.args.unpacked
-    (past c.args.term c.args.found c.full_blocks-blocks.ensures c.if-found-blocks.false) c.in-At.behind c.uncompress_unsorted.new.values
-    (sym c.in-At.is ∙ c.uncompress_unsorted.ensures.value) c.uncompress_unsorted.ensures.values_after _
-    (ids_left n c.args.found.least ids c.first_as_difference-2.new.values c.first_as_difference-2.ensures) without)
+    (past c.args.term c.args.found c.full_blocks-blocks.ensures c.if-found-blocks.false) c.in-Some.behind c.uncompress_unsorted.new.values
+    (sym c.in-Some.is ∙ c.uncompress_unsorted.ensures.value) c.uncompress_unsorted.ensures.values_after _
+    (ids_left n c.args.found.least ids c.first_as_difference-2.new.values c.first_as_difference-2.ensures) without))
 
 pub returns-then-term-eq0-2 : goal.returns-then-term-eq0-2
 returns-then-term-eq0-2 c =
     let n : ℕ = c.args.term.count % 128 in
     let ids : List ℕ = c.uncompress_unsorted.new.values ++ drop n (replicate 128 TERMINATED) in
-    let kept_is = keeps c.args.term c.args.layout (drop c.in-At.behind c.args.image.now) c.full_blocks-blocks.ensures c.keeps_freqs-kept.ensures in
+    let kept_is = keeps c.args.term c.args.layout (drop c.in-Some.behind c.args.image.now) c.full_blocks-blocks.ensures c.keeps_freqs-kept.ensures in
     let has = asked_for _ n (sym kept_is ∙ c.if-not-kept-2.false) c.if-n-eq0.false in
     told
     (c.tail_taken-then-term-eq0-2.ensures ∙ ap (λ (kept : Bool). tail_taken_of n true true true true kept (c.args.unpacked + 1)) kept_is)
     (tail-unasked c.args.term c.args.layout c.args.image.now c.args.found c.args.unpacked
-    (past c.args.term c.args.found c.full_blocks-blocks.ensures c.if-found-blocks.false) c.in-At.behind c.uncompress_unsorted.new.values
-    (sym c.in-At.is ∙ c.uncompress_unsorted.ensures.value) c.uncompress_unsorted.ensures.values_after _
+    (past c.args.term c.args.found c.full_blocks-blocks.ensures c.if-found-blocks.false) c.in-Some.behind c.uncompress_unsorted.new.values
+    (sym c.in-Some.is ∙ c.uncompress_unsorted.ensures.value) c.uncompress_unsorted.ensures.values_after _
     (ids_left n c.args.found.least ids c.first_as_difference-2.new.values c.first_as_difference-2.ensures) has c.if-term-eq0-2.true)
 
 pub returns-in_default-uncompress_unsorted : goal.returns-in_default-uncompress_unsorted
 returns-in_default-uncompress_unsorted c =
     let n : ℕ = c.args.term.count % 128 in
     let ids : List ℕ = c.uncompress_unsorted.new.values ++ drop n (replicate 128 TERMINATED) in
-    let kept_is = keeps c.args.term c.args.layout (drop c.in-At.behind c.args.image.now) c.full_blocks-blocks.ensures c.keeps_freqs-kept.ensures in
+    let kept_is = keeps c.args.term c.args.layout (drop c.in-Some.behind c.args.image.now) c.full_blocks-blocks.ensures c.keeps_freqs-kept.ensures in
     let has = asked_for _ n (sym kept_is ∙ c.if-not-kept-2.false) c.if-n-eq0.false in
-    told
-    (c.tail_taken-in_default-uncompress_unsorted.ensures ∙ ap (λ (kept : Bool). tail_taken_of n true false true true kept (c.args.unpacked + 1)) kept_is)
+    rw c.tail_taken-in_default-uncompress_unsorted.ensures
+    (told
+    (ap (λ (kept : Bool). tail_taken_of n true false true true kept (c.args.unpacked + 1)) kept_is)
     (tail-freqs_broken c.args.term c.args.layout c.args.image.now c.args.found c.args.unpacked
-    (past c.args.term c.args.found c.full_blocks-blocks.ensures c.if-found-blocks.false) c.in-At.behind c.uncompress_unsorted.new.values
-    (sym c.in-At.is ∙ c.uncompress_unsorted.ensures.value) c.uncompress_unsorted.ensures.values_after _
+    (past c.args.term c.args.found c.full_blocks-blocks.ensures c.if-found-blocks.false) c.in-Some.behind c.uncompress_unsorted.new.values
+    (sym c.in-Some.is ∙ c.uncompress_unsorted.ensures.value) c.uncompress_unsorted.ensures.values_after _
     (ids_left n c.args.found.least ids c.first_as_difference-2.new.values c.first_as_difference-2.ensures) has
-    (pos_of_ne-zero c.if-term-eq0-2.false) (sym c.in_default-uncompress_unsorted.is ∙ c.uncompress_unsorted-2.ensures.value))
+    (pos_of_ne-zero c.if-term-eq0-2.false) (sym c.in_default-uncompress_unsorted.is ∙ c.uncompress_unsorted-2.ensures.value)))
 
 pub returns : goal.returns
 returns c =
     let n : ℕ = c.args.term.count % 128 in
     let ids : List ℕ = c.uncompress_unsorted.new.values ++ drop n (replicate 128 TERMINATED) in
-    let kept_is = keeps c.args.term c.args.layout (drop c.in-At.behind c.args.image.now) c.full_blocks-blocks.ensures c.keeps_freqs-kept.ensures in
+    let kept_is = keeps c.args.term c.args.layout (drop c.in-Some.behind c.args.image.now) c.full_blocks-blocks.ensures c.keeps_freqs-kept.ensures in
     let has = asked_for _ n (sym kept_is ∙ c.if-not-kept-2.false) c.if-n-eq0.false in
-    told
-    (c.tail_taken-2.ensures
-    ∙ ap₂ (λ (end kept : Bool). tail_taken_of n true true false end kept (c.args.unpacked + 1)) c.none_left-2.ensures kept_is)
+    rw c.tail_taken-2.ensures
+    (told
+    (ap₂ (λ (end kept : Bool). tail_taken_of n true true false end kept (c.args.unpacked + 1)) c.none_left-2.ensures kept_is)
     (tail_with c.args.term c.args.layout c.args.image.now c.args.found c.args.unpacked
-    (past c.args.term c.args.found c.full_blocks-blocks.ensures c.if-found-blocks.false) c.in-At.behind c.uncompress_unsorted.new.values
-    (sym c.in-At.is ∙ c.uncompress_unsorted.ensures.value) c.uncompress_unsorted.ensures.values_after _
+    (past c.args.term c.args.found c.full_blocks-blocks.ensures c.if-found-blocks.false) c.in-Some.behind c.uncompress_unsorted.new.values
+    (sym c.in-Some.is ∙ c.uncompress_unsorted.ensures.value) c.uncompress_unsorted.ensures.values_after _
     (ids_left n c.args.found.least ids c.first_as_difference-2.new.values c.first_as_difference-2.ensures) has
-    (pos_of_ne-zero c.if-term-eq0-2.false) _ _ (sym c.in-At-uncompress_unsorted.is ∙ c.uncompress_unsorted-2.ensures.value)
-    c.uncompress_unsorted-2.ensures.values_after)
+    (pos_of_ne-zero c.if-term-eq0-2.false) _ _ (sym c.in-Some-uncompress_unsorted.is ∙ c.uncompress_unsorted-2.ensures.value)
+    c.uncompress_unsorted-2.ensures.values_after))

@@ -6,4 +6,4 @@ use Rattle.segment_postings.proofs.seeks.seek.Goals as goal
 
 pub returns : goal.returns
 unfolding called call_by
-returns c = rw (c.go-went.ensures.0, c.go-went.ensures.1)
+returns c = rw (c.go-answer.ensures.0, c.go-answer.ensures.1)

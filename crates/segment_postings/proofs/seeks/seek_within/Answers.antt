@@ -6,30 +6,17 @@ use Rattle.segment_postings.proofs.Laws.LandingParts.{none-reached, held-reached
 use Rattle.segment_postings.proofs.seeks.SeekCases.{within-there, within_none}
 use Rattle.segment_postings.proofs.seeks.seek_within.Goals as goal
 
-pub returns-then-place-held : goal.returns-then-place-held
+pub returns-then-not-there : goal.returns-then-not-there
 unfolding place_of
-returns-then-place-held c freqs =
-    none-reached _ _ (within_none _ _ _ c.search_block-place.ensures.value (λ k. omega (arith, k.ahead)))
-
-pub returns-then-place-ge-COMPRESSION_BLOCK_SIZE : goal.returns-then-place-ge-COMPRESSION_BLOCK_SIZE
-unfolding place_of
-returns-then-place-ge-COMPRESSION_BLOCK_SIZE c freqs =
-    none-reached _ _ (within_none _ _ _ c.search_block-place.ensures.value (λ k. omega (arith, k.inside)))
-
-pub returns-then-docs-place : goal.returns-then-docs-place
-unfolding place_of
-returns-then-docs-place c freqs =
-    none-reached _ _ (within_none _ _ _ c.search_block-place.ensures.value (λ k. omega (arith, k.reaches)))
-
-pub returns-then-term-held : goal.returns-then-term-held
-unfolding place_of
-returns-then-term-held c freqs =
-    none-reached _ _ (within_none _ _ _ c.search_block-place.ensures.value (λ k. omega (arith, k.counted)))
+returns-then-not-there c freqs =
+    let no = c.if-not-there.true in
+    none-reached _ _ (within_none _ _ _ c.search_block-place.ensures.value (λ k. grind (arith, k, no)))
 
 pub returns : goal.returns
 unfolding place_of at_place
 returns c freqs =
+    let yes = c.if-not-there.false in
     held-reached _ _ _
     (within-there _ _ _ c.search_block-place.ensures.value
-    (record { ahead = omega arith; inside = omega arith; reaches = omega arith; counted = omega arith })
+    (record { ahead = grind (arith, yes); inside = grind (arith, yes); reaches = grind (arith, yes); counted = grind (arith, yes) })
     ∙ rw c.at_place.ensures)

@@ -3,10 +3,10 @@
 use Rattle.segment_postings.specs.Private.{with_answer_of}
 use Rattle.segment_postings.proofs.seeks.with_answer.Goals as goal
 
-pub returns-in-At : goal.returns-in-At
+pub returns-in-Ok : goal.returns-in-Ok
 unfolding with_answer_of
-returns-in-At c = rw (c.in-At.is, c.shown_at-answer.ensures)
+returns-in-Ok c = rw (c.in-Ok.is, c.shown_at.ensures)
 
-pub returns-in-Refused : goal.returns-in-Refused
+pub returns-in-Err : goal.returns-in-Err
 unfolding with_answer_of
-returns-in-Refused c = rw c.in-Refused.is
+returns-in-Err c = rw c.in-Err.is

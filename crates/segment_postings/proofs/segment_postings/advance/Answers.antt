@@ -6,4 +6,4 @@ use Rattle.segment_postings.proofs.segment_postings.advance.Goals as goal
 
 pub returns : goal.returns
 unfolding called call_by
-returns c = let k = c.go-went.ensures in rw (k.0, k.1)
+returns c = let k = c.go-answer.ensures in rw (k.0, k.1)

@@ -5,14 +5,14 @@ use Rattle.segment_postings.proofs.Laws.LandingParts.{opening_near}
 use Rattle.segment_postings.proofs.Laws.CallsByValue.{open_in_calls, with_answer_of-leaves, reached_near}
 use Rattle.segment_postings.proofs.segment_postings.open.Goals as goal
 
-pub with_answer-went-requires : goal.with_answer-went-requires
-with_answer-went-requires c = reached_near (λ _. opening_near _ _) c.open_in-reached.ensures
+pub with_answer-answer-requires : goal.with_answer-answer-requires
+with_answer-answer-requires c = reached_near (λ _. opening_near _ _) c.open_in-reached.ensures
 
 pub returns : goal.returns
 returns c =
     let blank = c.blank-blank.ensures in
     let same = open_in_calls _ _ (rw blank at c.open_in-reached.ensures) in
     let k =
-    with_answer_of-leaves same (reached_near (λ _. opening_near _ _) c.open_in-reached.ensures) (rw blank at c.with_answer-went.ensures)
+    with_answer_of-leaves same (reached_near (λ _. opening_near _ _) c.open_in-reached.ensures) (rw blank at c.with_answer-answer.ensures)
     in
     rw (k.0, k.1)

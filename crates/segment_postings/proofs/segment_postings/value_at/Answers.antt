@@ -3,21 +3,20 @@
 use Rattle.std.proofs.Common.{sym, ◌∙◌, arith}
 use Rattle.format.specs.Basics.{ask, choose}
 use Rattle.segment_postings.specs.Cursor.{value_at}
-use Rattle.segment_postings.specs.Calls.{valued}
 use Rattle.segment_postings.proofs.arrays.Question16.{bounded}
 use Rattle.segment_postings.proofs.segment_postings.value_at.Goals as goal
 
 pub returns-then-not-in_bounds : goal.returns-then-not-in_bounds
-unfolding valued value_at ask
+unfolding value_at ask
 returns-then-not-in_bounds c = rw (sym c.in_bounds.ensures ∙ c.if-not-in_bounds.true)
 
 pub at_end-requires : goal.at_end-requires
 at_end-requires c = (bounded _ _ _ (sym c.in_bounds.ensures ∙ c.if-not-in_bounds.false)).place_below
 
 pub returns-then-at_end : goal.returns-then-at_end
-unfolding valued value_at ask choose
+unfolding value_at ask choose
 returns-then-at_end c =
-    rw (sym c.in_bounds.ensures ∙ c.if-not-in_bounds.false, sym c.at_end.ensures ∙ c.if-at_end.true) c.value.ensures
+    rw (sym c.in_bounds.ensures ∙ c.if-not-in_bounds.false, sym c.at_end.ensures ∙ c.if-at_end.true)
 
 pub offset_bounds-values-place : goal.offset_bounds-values-place
 offset_bounds-values-place c = omega (arith, bounded _ _ _ (sym c.in_bounds.ensures ∙ c.if-not-in_bounds.false))
@@ -26,6 +25,6 @@ pub bounds-values-place : goal.bounds-values-place
 bounds-values-place c = omega (arith, bounded _ _ _ (sym c.in_bounds.ensures ∙ c.if-not-in_bounds.false))
 
 pub returns : goal.returns
-unfolding valued value_at ask choose
+unfolding value_at ask choose
 returns c =
-    rw (sym c.in_bounds.ensures ∙ c.if-not-in_bounds.false, sym c.at_end.ensures ∙ c.if-at_end.false) c.value-2.ensures
+    rw (sym c.in_bounds.ensures ∙ c.if-not-in_bounds.false, sym c.at_end.ensures ∙ c.if-at_end.false)

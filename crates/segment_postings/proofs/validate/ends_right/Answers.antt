@@ -1,12 +1,13 @@
 -- `segment_postings::validate::ends_right` meets its contract, by whether the block is full.
 -- Assumes nothing.
+use borrow.Author.Tests.{not-true, not-false}
 use Rattle.segment_postings.specs.Taken.{ends_before}
 use Rattle.segment_postings.proofs.validate.ends_right.Goals as goal
 
-pub returns-then-taken : goal.returns-then-taken
+pub returns-then-not-taken : goal.returns-then-not-taken
 unfolding ends_before
-returns-then-taken c = rw c.if-taken.true
+returns-then-not-taken c = rw (not-true _ c.if-not-taken.true)
 
-pub returns : goal.returns
+pub returns-else-not-taken : goal.returns-else-not-taken
 unfolding ends_before
-returns c = rw c.if-taken.false
+returns-else-not-taken c = rw (not-false _ c.if-not-taken.false)

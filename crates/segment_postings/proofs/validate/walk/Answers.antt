@@ -2,14 +2,17 @@
 -- refusal of the whole reading. That of the ids of a block: those passed are in order, so that question 6 is answered by those to come.
 -- That of its frequencies: none passed is 0. A loop that is left from inside has come to the first question answered no.
 -- Assumes nothing.
-use Rattle.std.proofs.Common.{◌≡◌, ℕ, ◌+◌, ◌-◌, ◌^◌, ◌<◌, ◌≤◌, true, false, List, [], ◌∷◌, length, get_or, take, sym, ap, ◌∙◌, add-one, arith}
-use Rattle.std.proofs.Math.Seq.{slice, slice-cons, slice_empty, length-take-le, get_or-take}
+use Rattle.format.specs.declared.refusal.Refusal.{Refusal}
+use Rattle.format.specs.Basics.{Outcome}
+use Rattle.std.specs.Prelude.{Ok, Err}
+use Rattle.std.proofs.Common.{◌≡◌, ℕ, ◌+◌, ◌-◌, ◌^◌, ◌<◌, ◌≤◌, true, false, List, [], ◌∷◌, length, get_or, take, drop, sym, ap, ◌∙◌, add-one, arith}
+use Rattle.std.proofs.Math.Seq.{drop-cons, length-take-le}
+use Rattle.std.proofs.Math.ListN.{drop_of_length-le}
 use Prim.Native.Nat.{zero-le}
 use native.Mathlib.Nat.{pos_of_ne-zero}
 use borrow.Author.Tests.{not-true, not-false}
 use Rattle.format.specs.declared.Layout.{Layout}
 use Rattle.format.specs.declared.Term.{Term}
-use Rattle.format.specs.Basics.{ok, refused}
 use Rattle.format.specs.SkipEntry.{block_size_of}
 use Rattle.format.specs.Layout.{layout, full_blocks_of, skip_bytes_of}
 use Rattle.format.specs.Reading.{Reading, reading}
@@ -17,18 +20,15 @@ use Rattle.format.specs.Model.{member}
 use Rattle.compression.specs.Restored.{ids_behind}
 use Rattle.format.proofs.Lists.{AllBelow-get_or}
 use Rattle.segment_postings.specs.declared.find.Found.{Found}
-use Rattle.segment_postings.specs.declared.find.Search.{Search}
-use Rattle.segment_postings.specs.declared.find.Search.TheVariants.{To}
 use Rattle.segment_postings.specs.declared.load.Taken.{Taken}
-use Rattle.segment_postings.specs.Private.{FindsFrom, searched}
+use Rattle.segment_postings.specs.Private.{FindsFrom}
 use Rattle.segment_postings.specs.Landing.{find_block_of}
 use Rattle.segment_postings.specs.Taken.{ends_on, ends_before, asked_docs, asked_freqs, freqs_to_ask_of, ValuesTaken}
 use Rattle.segment_postings.proofs.Laws.BelowMark.{count_most}
-use Rattle.segment_postings.proofs.Laws.LandingParts.{searched_to, searched-refused}
 use Rattle.segment_postings.proofs.layout.SplitParts.{laid_out}
 use Rattle.segment_postings.proofs.find.FoundBlock.{found-there}
 use Rattle.segment_postings.proofs.validate.PlaceByPlace.{Ordered, ordered_none, ordered_next, ordered_same, ordered_over, ordered_all, ordered_ends, ends-full}
-use Rattle.segment_postings.proofs.validate.PlaceByPlace.{ZeroToCome, freqs_to_ask_of-most, to_come_first, to_come_next, to_come_zero, to_come_none}
+use Rattle.segment_postings.proofs.validate.PlaceByPlace.{ZeroToCome, freqs_to_ask_of-most, to_come_first, to_come_next, to_come_zero, to_come_none, asked-all}
 use Rattle.segment_postings.proofs.load.BlockQuestions.{docs_broken, docs_fallen, docs-end_wrong, docs_right, freqs_broken, freqs_wrong, freqs-not-last, freqs_right}
 use Rattle.segment_postings.proofs.Admission.WalkReads.{walking, walking-from, reading_at, loaded_at-none, found-same, full-within}
 use Rattle.segment_postings.proofs.Admission.WalkReads.{reading-whole, reading_stops, stops_at-docs, stops_at-freqs, goes_on, ends-at-tail}
@@ -36,31 +36,31 @@ use Rattle.segment_postings.proofs.validate.walk.Goals as goal
 use Rattle.segment_postings.proofs.validate.walk.Goals.{then-difference-eq0-via-then-difference-eq0, then-difference-eq0-via-else-difference-eq0+then-least}
 
 -- what is still to come begins at the present place
-first-left : (i n : ℕ) (vs : List ℕ) → i < n → n ≤ length vs → slice i n vs ≡ get_or vs i 0 ∷ slice (i + 1) n vs
-first-left i n vs here long = rw add-one (slice-cons i n vs 0 here long)
+first-left : (i : ℕ) (vs : List ℕ) → i < length vs → drop i vs ≡ get_or vs i 0 ∷ drop (i + 1) vs
+first-left i vs here = rw add-one (drop-cons vs i 0 here)
 
-none-left : (i n : ℕ) (vs : List ℕ) → i ≡ n → slice i n vs ≡ []
-none-left i n vs last = rw (last, slice_empty n vs)
+none-left : (i : ℕ) (vs : List ℕ) → length vs ≤ i → drop i vs ≡ []
+none-left i vs last = drop_of_length-le vs last
 
-few : (t : Term) (bs : List ℕ) {l : Layout} {b : ℕ} → layout t bs ≡ ok l → b ≤ full_blocks_of t → b < 2 ^ 25
+few : (t : Term) (bs : List ℕ) {l : Layout} {b : ℕ} → layout t bs ≡ Ok l → b ≤ full_blocks_of t → b < 2 ^ 25
 unfolding full_blocks_of
 few t bs {b = b} laid most = omega (arith, count_most t bs laid)
 
 -- the block at hand, found and taken
 record AtBlock (t : Term) (l : Layout) (bs : List ℕ) (b at least : ℕ) (f : Found) (k : Taken) (docs freqs : List ℕ) : Type 0 where
-  same : (reading t bs).refusal ≡ (reading_at t l bs b at least).refusal
-  found : find_block_of l.option (skip_bytes_of l bs) bs 0 (full_blocks_of t - b) (walking b at least) ≡ ok f
+  same : (reading t bs).verdict ≡ (reading_at t l bs b at least).verdict
+  found : find_block_of l.option (skip_bytes_of l bs) bs 0 (full_blocks_of t - b) (walking b at least) ≡ Ok f
   taken : ValuesTaken t l bs f b docs freqs k
 
-at-block : {t : Term} {l : Layout} {bs : List ℕ} {b at least : ℕ} {f : Found} {k : Taken} {docs freqs : List ℕ} {r : Search}
-    → (reading t bs).refusal ≡ (reading_at t l bs b at least).refusal
-    → r ≡ searched (find_block_of l.option (skip_bytes_of l bs) bs 0 (full_blocks_of t - b) (walking b at least))
-    → r ≡ To f → ValuesTaken t l bs f b docs freqs k → AtBlock t l bs b at least f k docs freqs
-at-block same e is taken = record { same = same; found = searched_to _ (sym e ∙ is); taken = taken }
+at-block : {t : Term} {l : Layout} {bs : List ℕ} {b at least : ℕ} {f : Found} {k : Taken} {docs freqs : List ℕ} {r : Outcome Found}
+    → (reading t bs).verdict ≡ (reading_at t l bs b at least).verdict
+    → r ≡ find_block_of l.option (skip_bytes_of l bs) bs 0 (full_blocks_of t - b) (walking b at least)
+    → r ≡ Ok f → ValuesTaken t l bs f b docs freqs k → AtBlock t l bs b at least f k docs freqs
+at-block same e is taken = record { same = same; found = sym e ∙ is; taken = taken }
 
 module _ {t : Term} {l : Layout} {bs : List ℕ} {b at least : ℕ} {f : Found} {k : Taken} {docs freqs : List ℕ}
     (h : AtBlock t l bs b at least f k docs freqs) where
-  stops : {n : ℕ} → asked_docs k least docs ≡ refused n → n ≡ (reading t bs).refusal
+  stops : {n : Refusal} → asked_docs k least docs ≡ Err n → Err n ≡ (reading t bs).verdict
   stops e = sym (h.same ∙ stops_at-docs _ _ _ _ _ _ h.found h.taken e)
 
   -- as many frequencies to ask as the array has places, or none
@@ -76,40 +76,54 @@ module _ {t : Term} {l : Layout} {bs : List ℕ} {b at least : ℕ} {f : Found} 
     docs-long : k.n ≤ length docs
     docs-long = omega (arith, (h.taken.docs_fill there).long, h.taken.n_most)
 
+    -- as many are asked as were taken
+    many : length (take k.n docs) ≡ k.n
+    many = length-take-le k.n docs docs-long
+
     -- one is a number of 32 bits
-    small : {i : ℕ} → i < k.n → get_or docs i 0 < 2 ^ 32
-    small {i} here = rw (get_or-take k.n docs i 0 here) at (AllBelow-get_or (take k.n docs) (omega arith) (h.taken.docs_below there) i)
+    small : (i : ℕ) → get_or (take k.n docs) i 0 < 2 ^ 32
+    small i = AllBelow-get_or (take k.n docs) (omega arith) (h.taken.docs_below there) i
 
     -- behind them
-    module _ {behind i : ℕ} (last : i ≡ k.n) (some : 0 < i → 0 < behind) (o : Ordered least behind (take k.n docs) (slice i k.n docs)) where
+    module _ {behind i : ℕ} (last : length (take k.n docs) ≤ i) (some : 0 < i → 0 < behind)
+        (o : Ordered least behind (take k.n docs) (drop i (take k.n docs))) where
       all_ordered : Ordered least behind (take k.n docs) []
-      all_ordered = rw (none-left i k.n docs last) at o
+      all_ordered = rw (none-left i (take k.n docs) last) at o
 
       ends : ends_on k.full k.last_doc (ids_behind least (take k.n docs)) ≡ ends_before k.full k.last_doc behind
       ends =
           ordered_ends _ _ _ all_ordered k.full k.last_doc
           (λ full.
           let places : k.n ≡ 128 = h.taken.full_n full in
-          let many : length (take k.n docs) ≡ k.n = length-take-le k.n docs docs-long in
-          (omega arith, some (omega arith)))
+          (omega (arith, many, places), some (omega (arith, many, places, last))))
 
-      docs-passed : ends_before k.full k.last_doc behind ≡ true → asked_docs k least docs ≡ ok (ids_behind least (take k.n docs))
+      docs-passed : ends_before k.full k.last_doc behind ≡ true → asked_docs k least docs ≡ Ok (ids_behind least (take k.n docs))
       docs-passed e = docs_right _ _ _ there (ordered_all _ _ _ all_ordered) (ends ∙ e)
 
   -- whose ids are right
-  module _ {ds : List ℕ} (right : asked_docs k least docs ≡ ok ds) where
-    stops_behind : {n : ℕ} → asked_freqs k freqs ≡ refused n → n ≡ (reading t bs).refusal
+  module _ {ds : List ℕ} (right : asked_docs k least docs ≡ Ok ds) where
+    stops_behind : {n : Refusal} → asked_freqs k freqs ≡ Err n → Err n ≡ (reading t bs).verdict
     stops_behind e = sym (h.same ∙ stops_at-freqs _ _ _ _ _ _ h.found h.taken right e)
 
-none-zero : {k : Taken} {freqs : List ℕ} {i m : ℕ} → i ≡ m → ZeroToCome k freqs (slice i m freqs) → member 0 (take k.n freqs) ≡ false
-none-zero {k} {freqs} {i} {m} last z = to_come_none k freqs (rw (none-left i m freqs last) at z)
+-- those of the frequencies that are asked
+asked-front : (k : Taken) (freqs : List ℕ) {m : ℕ} → m ≡ freqs_to_ask_of k → take m freqs ≡ take (freqs_to_ask_of k) freqs
+asked-front k freqs e = ap (λ (n : ℕ). take n freqs) e
+
+-- none of the frequencies that were asked is 0, so that none of all is
+module _ (k : Taken) (freqs : List ℕ) {fs : List ℕ} (known : k.freqs_nonzero ≡ true → member 0 (take k.n freqs) ≡ false)
+    (fs_are : fs ≡ take (freqs_to_ask_of k) freqs) where
+  asked-same : member 0 (take k.n freqs) ≡ member 0 fs
+  asked-same = asked-all k freqs known ∙ rw fs_are
+
+  none-zero : {i : ℕ} → length fs ≤ i → ZeroToCome fs (drop i fs) → member 0 (take k.n freqs) ≡ false
+  none-zero {i} last z = asked-same ∙ to_come_none fs (rw (none-left i fs last) at z)
 
 pub blocks-2-init : goal.blocks-2-init
 blocks-2-init c = record {
   block_most_is = zero-le;
   at_inside = (laid_out _ _ c.requires).inside;
   least_most = zero-le;
-  same = ap (λ (r : Reading). r.refusal) (reading-whole _ _ _ c.requires);
+  same = ap (λ (r : Reading). r.verdict) (reading-whole _ _ _ c.requires);
 }
 
 pub overflow_cast-from : goal.overflow_cast-from
@@ -121,7 +135,7 @@ find_block-requires c = walking-from _ _ _ c.requires c.blocks-2.invariant.block
 pub take_values-taken-requires : goal.take_values-taken-requires
 take_values-taken-requires c =
     let from = walking-from _ _ _ c.requires c.blocks-2.invariant.block_most_is c.blocks-2.invariant.at_inside in
-    let found = searched_to _ (sym c.find_block.ensures ∙ c.in-To.is) in
+    let found = (sym c.find_block.ensures ∙ c.in-Ok.is) in
     (found-there _ _ _ _ _ from found, omega (arith, few c.args.term c.args.image.now c.requires c.blocks-2.invariant.block_most_is))
 
 pub ids-init : goal.ids-init
@@ -133,13 +147,12 @@ ids-init c = record {
 
 pub overflow_add-least : goal.overflow_add-least
 overflow_add-least c =
-    let h = at-block c.blocks-2.invariant.same c.find_block.ensures c.in-To.is c.take_values-taken.ensures in
-    omega (arith, small h (not-false _ c.if-not-taken.false) c.ids-test.true)
+    let h = at-block c.blocks-2.invariant.same c.find_block.ensures c.in-Ok.is c.take_values-taken.ensures in
+    omega (arith, small h (not-false _ c.if-not-taken.false) c.ids.difference-index)
 
 pub ids-preserved : goal.ids-preserved
 ids-preserved c =
-    let h = at-block c.blocks-2.invariant.same c.find_block.ensures c.in-To.is c.take_values-taken.ensures in
-    let first = first-left c.ids.i _ c.take_values-taken.new.docs c.ids-test.true (docs-long h (not-false _ c.if-not-taken.false)) in
+    let first = first-left c.ids.difference-index (take c.take_values-taken.result.n c.take_values-taken.new.docs) c.ids-test.true in
     let some = pos_of_ne-zero c.if-difference-eq0.false in
     record {
       least_most = c.if-least.false;
@@ -147,50 +160,49 @@ ids-preserved c =
       ordered = ordered_next _ _ _ _ _ (rw first at c.ids.invariant.ordered) some c.if-least.false;
     }
 
+pub slice_bounds-freqs-end : goal.slice_bounds-freqs-end
+slice_bounds-freqs-end c =
+    let h = at-block c.blocks-2.invariant.same c.find_block.ensures c.in-Ok.is c.take_values-taken.ensures in
+    omega (arith, asked-most h c.freqs_to_ask.ensures, c.take_values-taken.ensures.freqs_fill.long)
+
+pub slice_bounds-freq-items-end : goal.slice_bounds-freq-items-end
+slice_bounds-freq-items-end c =
+    let h = at-block c.blocks-2.invariant.same c.find_block.ensures c.in-Ok.is c.take_values-taken.ensures in
+    let few : c.freqs_to_ask.result ≤ length c.take_values-taken.new.freqs
+    = omega (arith, asked-most h c.freqs_to_ask.ensures, c.take_values-taken.ensures.freqs_fill.long) in
+    omega (arith, length-take-le _ c.take_values-taken.new.freqs few)
+
 pub counts-init : goal.counts-init
-counts-init c = rw c.freqs_to_ask-i-end.ensures (to_come_first _ _ c.take_values-taken.ensures.freqs_nonzero)
-
-pub offset_bounds-freqs-i : goal.offset_bounds-freqs-i
-offset_bounds-freqs-i c =
-    let h = at-block c.blocks-2.invariant.same c.find_block.ensures c.in-To.is c.take_values-taken.ensures in
-    omega (arith, asked-most h c.freqs_to_ask-i-end.ensures)
-
-pub bounds-freqs-i : goal.bounds-freqs-i
-bounds-freqs-i c =
-    let h = at-block c.blocks-2.invariant.same c.find_block.ensures c.in-To.is c.take_values-taken.ensures in
-    omega (arith, asked-most h c.freqs_to_ask-i-end.ensures)
+counts-init c = to_come_first _
 
 pub counts-preserved : goal.counts-preserved
 counts-preserved c =
-    let h = at-block c.blocks-2.invariant.same c.find_block.ensures c.in-To.is c.take_values-taken.ensures in
-    let long : c.freqs_to_ask-i-end.result ≤ length c.take_values-taken.new.freqs =
-    omega (arith, c.take_values-taken.ensures.freqs_fill.long, asked-most h c.freqs_to_ask-i-end.ensures) in
-    to_come_next _ _ _ _ (rw (first-left c.counts.i c.freqs_to_ask-i-end.result c.take_values-taken.new.freqs c.counts-test.true long) at c.counts.invariant)
-    c.if-freqs-i-eq0.false
+    to_come_next _ _ _
+    (rw (first-left c.counts.freq-index (take c.freqs_to_ask.result c.take_values-taken.new.freqs) c.counts-test.true) at c.counts.invariant)
+    c.if-freq-eq0.false
 
 -- the place behind a full block's bytes
 pub overflow_add-at : goal.overflow_add-at
 overflow_add-at c =
-    let h = at-block c.blocks-2.invariant.same c.find_block.ensures c.in-To.is c.take_values-taken.ensures in
+    let h = at-block c.blocks-2.invariant.same c.find_block.ensures c.in-Ok.is c.take_values-taken.ensures in
     let from = walking-from _ _ _ c.requires c.blocks-2.invariant.block_most_is c.blocks-2.invariant.at_inside in
     let inside : c.blocks-2.at + c.block_size-at.result ≤ length c.args.image.now = next-at h from c.block_size-at.ensures in
     omega (arith, inside)
 
 pub blocks-2-smaller : goal.blocks-2-smaller
 blocks-2-smaller c =
-    let h = at-block c.blocks-2.invariant.same c.find_block.ensures c.in-To.is c.take_values-taken.ensures in
+    let h = at-block c.blocks-2.invariant.same c.find_block.ensures c.in-Ok.is c.take_values-taken.ensures in
     omega (arith, full-within _ _ _ _ _ _ h.found h.taken (not-false _ c.if-not-taken-4.false))
 
 pub blocks-2-preserved : goal.blocks-2-preserved
 blocks-2-preserved c =
-    let h = at-block c.blocks-2.invariant.same c.find_block.ensures c.in-To.is c.take_values-taken.ensures in
+    let h = at-block c.blocks-2.invariant.same c.find_block.ensures c.in-Ok.is c.take_values-taken.ensures in
     let from = walking-from _ _ _ c.requires c.blocks-2.invariant.block_most_is c.blocks-2.invariant.at_inside in
     let there = not-false _ c.if-not-taken.false in
-    let last : c.ids.i ≡ c.take_values-taken.result.n = omega arith in
+    let last = c.ids-test.false in
     let ends = sym c.ends_right.ensures ∙ c.if-not-ends_right.false in
     let docs = docs-passed h there last c.ids.invariant.least_some c.ids.invariant.ordered ends in
-    let last-freq : c.counts.i ≡ c.freqs_to_ask-i-end.result = omega arith in
-    let freqs = freqs_right _ _ (not-false _ c.if-not-taken-2.false) (none-zero last-freq c.counts.invariant) (not-false _ c.if-not-taken-3.false) in
+    let freqs = freqs_right _ _ (not-false _ c.if-not-taken-2.false) (none-zero _ _ c.take_values-taken.ensures.freqs_nonzero (asked-front _ c.take_values-taken.new.freqs c.freqs_to_ask.ensures) c.counts-test.false c.counts.invariant) (not-false _ c.if-not-taken-3.false) in
     let full = not-false _ c.if-not-taken-4.false in
     record {
       block_most_is = omega (arith, full-within _ _ _ _ _ _ h.found h.taken full);
@@ -199,21 +211,21 @@ blocks-2-preserved c =
       same = h.same ∙ goes_on _ _ _ _ _ _ h.found h.taken docs freqs full c.block_size-at.ensures (ends-full _ _ _ full ends);
     }
 
-pub returns-in-Refused : goal.returns-in-Refused
-returns-in-Refused c =
-    let none = searched-refused _ (sym c.find_block.ensures ∙ c.in-Refused.is) in
+pub returns-in-Err : goal.returns-in-Err
+returns-in-Err c =
+    let none = sym c.find_block.ensures ∙ c.in-Err.is in
     sym (c.blocks-2.invariant.same ∙ reading_stops _ _ _ _ _ _ (loaded_at-none _ _ _ _ _ _ none))
 
 pub returns-then-not-taken : goal.returns-then-not-taken
 returns-then-not-taken c =
-    let h = at-block c.blocks-2.invariant.same c.find_block.ensures c.in-To.is c.take_values-taken.ensures in
+    let h = at-block c.blocks-2.invariant.same c.find_block.ensures c.in-Ok.is c.take_values-taken.ensures in
     stops h (docs_broken _ _ _ (not-true _ c.if-not-taken.true))
 
 pub returns-then-difference-eq0 : goal.returns-then-difference-eq0
 returns-then-difference-eq0 c =
-    let h = at-block c.blocks-2.invariant.same c.find_block.ensures c.in-To.is c.take_values-taken.ensures in
+    let h = at-block c.blocks-2.invariant.same c.find_block.ensures c.in-Ok.is c.take_values-taken.ensures in
     let there = not-false _ c.if-not-taken.false in
-    let first = first-left c.ids.i _ c.take_values-taken.new.docs c.ids-test.true (docs-long h there) in
+    let first = first-left c.ids.difference-index (take c.take_values-taken.result.n c.take_values-taken.new.docs) c.ids-test.true in
     let ordered = rw first at c.ids.invariant.ordered in
     stops h
     (docs_fallen _ _ _ there
@@ -224,52 +236,50 @@ returns-then-difference-eq0 c =
 
 pub returns-then-not-ends_right : goal.returns-then-not-ends_right
 returns-then-not-ends_right c =
-    let h = at-block c.blocks-2.invariant.same c.find_block.ensures c.in-To.is c.take_values-taken.ensures in
+    let h = at-block c.blocks-2.invariant.same c.find_block.ensures c.in-Ok.is c.take_values-taken.ensures in
     let there = not-false _ c.if-not-taken.false in
-    let last : c.ids.i ≡ c.take_values-taken.result.n = omega arith in
+    let last = c.ids-test.false in
     let wrong = ends h there last c.ids.invariant.least_some c.ids.invariant.ordered ∙ (sym c.ends_right.ensures ∙ c.if-not-ends_right.true) in
     stops h (docs-end_wrong _ _ _ there wrong)
 
 pub returns-then-not-taken-2 : goal.returns-then-not-taken-2
 returns-then-not-taken-2 c =
-    let h = at-block c.blocks-2.invariant.same c.find_block.ensures c.in-To.is c.take_values-taken.ensures in
+    let h = at-block c.blocks-2.invariant.same c.find_block.ensures c.in-Ok.is c.take_values-taken.ensures in
     let there = not-false _ c.if-not-taken.false in
-    let last : c.ids.i ≡ c.take_values-taken.result.n = omega arith in
+    let last = c.ids-test.false in
     let ends = sym c.ends_right.ensures ∙ c.if-not-ends_right.false in
     let docs = docs-passed h there last c.ids.invariant.least_some c.ids.invariant.ordered ends in
     stops_behind h docs (freqs_broken _ _ (not-true _ c.if-not-taken-2.true))
 
-pub returns-then-freqs-i-eq0 : goal.returns-then-freqs-i-eq0
-returns-then-freqs-i-eq0 c =
-    let h = at-block c.blocks-2.invariant.same c.find_block.ensures c.in-To.is c.take_values-taken.ensures in
+pub returns-then-freq-eq0 : goal.returns-then-freq-eq0
+returns-then-freq-eq0 c =
+    let h = at-block c.blocks-2.invariant.same c.find_block.ensures c.in-Ok.is c.take_values-taken.ensures in
     let there = not-false _ c.if-not-taken.false in
-    let last : c.ids.i ≡ c.take_values-taken.result.n = omega arith in
+    let last = c.ids-test.false in
     let ends = sym c.ends_right.ensures ∙ c.if-not-ends_right.false in
     let docs = docs-passed h there last c.ids.invariant.least_some c.ids.invariant.ordered ends in
-    let long : c.freqs_to_ask-i-end.result ≤ length c.take_values-taken.new.freqs =
-    omega (arith, c.take_values-taken.ensures.freqs_fill.long, asked-most h c.freqs_to_ask-i-end.ensures) in
-    let to_come =
-    rw (first-left c.counts.i c.freqs_to_ask-i-end.result c.take_values-taken.new.freqs c.counts-test.true long) at c.counts.invariant in
-    stops_behind h docs (freqs_wrong _ _ (not-false _ c.if-not-taken-2.false) (to_come_zero _ _ _ _ to_come c.if-freqs-i-eq0.true))
+    let fs_are = asked-front _ c.take_values-taken.new.freqs c.freqs_to_ask.ensures in
+    let to_come = rw (first-left c.counts.freq-index (take c.freqs_to_ask.result c.take_values-taken.new.freqs) c.counts-test.true) at c.counts.invariant in
+    stops_behind h docs
+    (freqs_wrong _ _ (not-false _ c.if-not-taken-2.false)
+    (asked-same _ _ c.take_values-taken.ensures.freqs_nonzero fs_are ∙ to_come_zero _ _ _ to_come c.if-freq-eq0.true))
 
 pub returns-then-not-taken-3 : goal.returns-then-not-taken-3
 returns-then-not-taken-3 c =
-    let h = at-block c.blocks-2.invariant.same c.find_block.ensures c.in-To.is c.take_values-taken.ensures in
+    let h = at-block c.blocks-2.invariant.same c.find_block.ensures c.in-Ok.is c.take_values-taken.ensures in
     let there = not-false _ c.if-not-taken.false in
-    let last : c.ids.i ≡ c.take_values-taken.result.n = omega arith in
+    let last = c.ids-test.false in
     let ends = sym c.ends_right.ensures ∙ c.if-not-ends_right.false in
     let docs = docs-passed h there last c.ids.invariant.least_some c.ids.invariant.ordered ends in
-    let last-freq : c.counts.i ≡ c.freqs_to_ask-i-end.result = omega arith in
     stops_behind h docs
-    (freqs-not-last _ _ (not-false _ c.if-not-taken-2.false) (none-zero last-freq c.counts.invariant) (not-true _ c.if-not-taken-3.true))
+    (freqs-not-last _ _ (not-false _ c.if-not-taken-2.false) (none-zero _ _ c.take_values-taken.ensures.freqs_nonzero (asked-front _ c.take_values-taken.new.freqs c.freqs_to_ask.ensures) c.counts-test.false c.counts.invariant) (not-true _ c.if-not-taken-3.true))
 
 pub returns-then-not-taken-4 : goal.returns-then-not-taken-4
 returns-then-not-taken-4 c =
-    let h = at-block c.blocks-2.invariant.same c.find_block.ensures c.in-To.is c.take_values-taken.ensures in
+    let h = at-block c.blocks-2.invariant.same c.find_block.ensures c.in-Ok.is c.take_values-taken.ensures in
     let there = not-false _ c.if-not-taken.false in
-    let last : c.ids.i ≡ c.take_values-taken.result.n = omega arith in
+    let last = c.ids-test.false in
     let ends = sym c.ends_right.ensures ∙ c.if-not-ends_right.false in
     let docs = docs-passed h there last c.ids.invariant.least_some c.ids.invariant.ordered ends in
-    let last-freq : c.counts.i ≡ c.freqs_to_ask-i-end.result = omega arith in
-    let freqs = freqs_right _ _ (not-false _ c.if-not-taken-2.false) (none-zero last-freq c.counts.invariant) (not-false _ c.if-not-taken-3.false) in
+    let freqs = freqs_right _ _ (not-false _ c.if-not-taken-2.false) (none-zero _ _ c.take_values-taken.ensures.freqs_nonzero (asked-front _ c.take_values-taken.new.freqs c.freqs_to_ask.ensures) c.counts-test.false c.counts.invariant) (not-false _ c.if-not-taken-3.false) in
     sym (h.same ∙ ends-at-tail _ _ _ _ _ _ h.found h.taken docs freqs (not-true _ c.if-not-taken-4.true))

@@ -1,41 +1,38 @@
 -- `segment_postings::whole::read` meets its contract: the questions in turn, and then the walk, which nothing refuses.
 -- Assumes nothing.
-use Rattle.std.proofs.Common.{sym, ◌∙◌}
-use Rattle.segment_postings.proofs.Laws.LandingParts.{laid-at, laid-refused}
+use Rattle.std.proofs.Common.{sym}
+use Rattle.segment_postings.proofs.Laws.Exits.{passed_on}
 use Rattle.segment_postings.proofs.Laws.ReadQuestions.{unlaid, unsound, docs-short, freqs-short, whole_walks, whole_is}
 use Rattle.segment_postings.proofs.Laws.ReadQuestions.{whole-refused, whole-written}
 use Rattle.segment_postings.proofs.whole.read.Goals as goal
+use Rattle.segment_postings.proofs.whole.read.Goals.{then-docs-count-via-then-docs-count, then-docs-count-via-else-docs-count+then-freqs-count}
 
-pub returns-then-refusal-ne0 : goal.returns-then-refusal-ne0
-returns-then-refusal-ne0 c =
-    let found = laid-at _ (sym c.lay_out.ensures ∙ c.in-At.is) in
-    whole-refused (unsound _ _ _ _ found c.validate-refusal.ensures c.if-refusal-ne0.true)
+pub returns-in_err-layout : goal.returns-in_err-layout
+returns-in_err-layout c =
+    rw (passed_on c.from_residual.ensures.1) (whole-refused (unlaid _ _ _ _ (sym c.in_err-layout.ensures)))
+
+pub returns-in_err-validate : goal.returns-in_err-validate
+returns-in_err-validate c =
+    rw (passed_on c.from_residual-in_err-validate.ensures.1) (whole-refused (unsound _ _ _ _ (sym c.in_ok-layout.ensures) (sym c.in_err-validate.ensures)))
 
 pub returns-then-docs-count : goal.returns-then-docs-count
 returns-then-docs-count c =
-    let found = laid-at _ (sym c.lay_out.ensures ∙ c.in-At.is) in
-    let sound = sym c.validate-refusal.ensures ∙ c.if-refusal-ne0.false in
-    whole-refused (docs-short _ _ _ _ found sound c.if-docs-count.true)
-
-pub returns-then-freqs-count : goal.returns-then-freqs-count
-returns-then-freqs-count c =
-    let found = laid-at _ (sym c.lay_out.ensures ∙ c.in-At.is) in
-    let sound = sym c.validate-refusal.ensures ∙ c.if-refusal-ne0.false in
-    whole-refused (freqs-short _ _ _ _ found sound c.if-freqs-count.true)
+    let found = sym c.in_ok-layout.ensures in
+    let sound = sym c.in_ok-validate.ensures in
+    whole-refused
+    (elim c.then-docs-count.branch [
+      | then-docs-count-via-then-docs-count w ↦ docs-short _ _ _ _ found sound w.if-docs-count.true
+      | then-docs-count-via-else-docs-count+then-freqs-count w ↦ freqs-short _ _ _ _ found sound w.if-freqs-count.true
+    ])
 
 -- the image sound, and room in both slices
 pub read_laid-requires : goal.read_laid-requires
 read_laid-requires c =
-    let found = laid-at _ (sym c.lay_out.ensures ∙ c.in-At.is) in
-    let sound = sym c.validate-refusal.ensures ∙ c.if-refusal-ne0.false in
-    whole_walks _ _ _ _ found sound c.if-docs-count.false c.if-freqs-count.false
+    whole_walks _ _ _ _ (sym c.in_ok-layout.ensures) (sym c.in_ok-validate.ensures) c.if-docs-count.false c.if-freqs-count.false
 
-pub returns-else-freqs-count : goal.returns-else-freqs-count
-returns-else-freqs-count c =
-    let found = laid-at _ (sym c.lay_out.ensures ∙ c.in-At.is) in
-    let sound = sym c.validate-refusal.ensures ∙ c.if-refusal-ne0.false in
+pub returns : goal.returns
+returns c =
+    let found = sym c.in_ok-layout.ensures in
+    let sound = sym c.in_ok-validate.ensures in
     let walks = whole_walks _ _ _ _ found sound c.if-docs-count.false c.if-freqs-count.false in
     whole-written _ _ (whole_is _ _ _ _ found sound c.if-docs-count.false c.if-freqs-count.false) walks.sound c.read_laid.ensures
-
-pub returns-in-Refused : goal.returns-in-Refused
-returns-in-Refused c = whole-refused (unlaid _ _ _ _ (laid-refused _ (sym c.lay_out.ensures ∙ c.in-Refused.is)))
