@@ -1,8 +1,10 @@
 -- A run of seeks, opened by one turn: a target that is served leads on from where its seek came to, a refused one ends the run. What is
 -- stored goes the same way, the document and the frequency of a turn before those of the turns behind it.
 -- Assumes nothing.
+use Rattle.std.specs.Prelude.{Ok, Err}
+use Rattle.std.specs.Result.{is_ok}
 use mathlib.Core.Path.{◌≡◌, refl, sym, ap, ◌∙◌}
-use mathlib.Core.Bool.{and-false}
+use mathlib.Core.Bool.{true, and-false}
 use mathlib.Core.List.{List, [], ◌∷◌, map}
 use Prim.Native.Nat.{ℕ, suc, ◌+◌, ◌-◌, ◌≤◌, ◌<◌}
 use native.Mathlib.Numerals.{add-one}
@@ -10,21 +12,23 @@ use native.Mathlib.Omega.{arith}
 use borrow.Author.Tests.{le-leb, lt-leb}
 use lib.ListN.{length, drop, get_or, set, length-map, length-set, length-drop}
 use lib.Seq.{drop-cons, drop-length}
+use Rattle.format.specs.declared.refusal.Refusal.{Refusal}
 use Rattle.format.specs.declared.Term.{Term}
-use Rattle.format.specs.Basics.{Outcome, ok, refused, choose, put_at, or_before}
+use Rattle.format.specs.Basics.{Outcome, choose, put_at, or_before}
+use Rattle.format.proofs.Outcome.{ok_same}
 use Rattle.format.proofs.Area.{put_at-nil, put_at-cons}
-use Rattle.segment_postings.specs.declared.Answer.TheVariants.{At, Refused}
+use Rattle.segment_postings.specs.declared.Answer.{Answer}
 use Rattle.segment_postings.specs.declared.SegmentPostings.{SegmentPostings}
 use Rattle.segment_postings.specs.Cursor.{answering, opening, seeking}
-use Rattle.segment_postings.proofs.Laws.LandingParts.{answering-at, answer_at_of-at}
-use Rattle.bench.specs.Seeks.{then_seeks, seeks_from, seeks, served_in, doc_of, freq_of, doc_on, freq_on, Served, Stored}
+use Rattle.segment_postings.proofs.Laws.LandingParts.{answering-at}
+use Rattle.bench.specs.Seeks.{then_seeks, seeks_from, seeks, served_in, doc_on, freq_on, Served, Stored}
 
 -- no more are served than there are targets
 then_most : (o : Outcome SegmentPostings) (go : SegmentPostings → List SegmentPostings) (n : ℕ) → ((d : SegmentPostings) → length (go d) ≤ n)
     → length (then_seeks o go) ≤ suc n
 unfolding then_seeks
-then_most (ok d) go n most = omega (arith, most d)
-then_most (refused k) go n most = omega arith
+then_most (Ok d) go n most = omega (arith, most d)
+then_most (Err k) go n most = omega arith
 
 served-most : (bs : List ℕ) (t : Term) (c : SegmentPostings) (targets : List ℕ) → length (seeks_from bs t c targets) ≤ length targets
 unfolding seeks_from
@@ -35,13 +39,15 @@ served-most bs t c (target ∷ targets) = then_most (seeking c bs t target) _ (l
 
 -- at a place of a block there is one, and it is stored
 module _ (t : Term) (c : SegmentPostings) (below : c.held.place < 128) where
-  pub never_refused : {n : ℕ} → answering t c ≡ Refused n → ⊥
-  never_refused e = answer_at_of-at t c (sym (answering-at t c below) ∙ e)
+  pub never_refused : {o : Outcome Answer} → o ≡ answering t c → is_ok o ≡ true
+  never_refused e = ap is_ok (e ∙ answering-at t c below)
 
-  pub stored_answer : (at : ℕ) (docs freqs : List ℕ) {doc freq unpacked entries : ℕ} → answering t c ≡ At doc freq unpacked entries
-      → Stored t c at docs freqs (set docs at doc) (set freqs at freq)
-  unfolding doc_on freq_on doc_of freq_of
-  stored_answer at docs freqs e = let is = sym (answering-at t c below) ∙ e in record { docs_after = rw is; freqs_after = rw is }
+  pub stored_answer : (at : ℕ) (docs freqs : List ℕ) {o : Outcome Answer} {a : Answer} → o ≡ answering t c → o ≡ Ok a
+      → Stored t c at docs freqs (set docs at a.doc) (set freqs at a.freq)
+  unfolding doc_on freq_on
+  stored_answer at docs freqs e told =
+      let is = ok_same (sym (answering-at t c below) ∙ sym e ∙ told) in
+      record { docs_after = ap (λ (x : Answer). set docs at x.doc) (sym is); freqs_after = ap (λ (x : Answer). set freqs at x.freq) (sym is) }
 
 -- ---- a run
 
@@ -66,15 +72,15 @@ module _ (bs : List ℕ) (t : Term) (targets : List ℕ) where
 
   -- ---- opening
 
-  pub seeks_unopened : {n : ℕ} → opening bs t ≡ refused n → seeks bs t targets ≡ []
+  pub seeks_unopened : {n : Refusal} → opening bs t ≡ Err n → seeks bs t targets ≡ []
   unfolding seeks or_before
   seeks_unopened e = rw e
 
-  seeks-opened : {c : SegmentPostings} → opening bs t ≡ ok c → seeks bs t targets ≡ on_from 0 c
+  seeks-opened : {c : SegmentPostings} → opening bs t ≡ Ok c → seeks bs t targets ≡ on_from 0 c
   unfolding seeks or_before
   seeks-opened e = rw e
 
-  pub serving_first : (docs freqs : List ℕ) {c : SegmentPostings} → opening bs t ≡ ok c → Serving docs freqs docs freqs c 0
+  pub serving_first : (docs freqs : List ℕ) {c : SegmentPostings} → opening bs t ≡ Ok c → Serving docs freqs docs freqs c 0
   serving_first docs freqs {c} e = record {
     upto = omega arith;
     docs_long = refl;
@@ -91,11 +97,11 @@ module _ (bs : List ℕ) (t : Term) (targets : List ℕ) where
     unfolding seeks_from
     turn = rw (drop-cons targets i 0 below, add-one) refl
 
-    turn_on : {d : SegmentPostings} → seeking c bs t (get_or targets i 0) ≡ ok d → on_from i c ≡ d ∷ on_from (i + 1) d
+    turn_on : {d : SegmentPostings} → seeking c bs t (get_or targets i 0) ≡ Ok d → on_from i c ≡ d ∷ on_from (i + 1) d
     unfolding then_seeks
     turn_on e = turn ∙ rw e
 
-    turn-refused : {n : ℕ} → seeking c bs t (get_or targets i 0) ≡ refused n → on_from i c ≡ []
+    turn-refused : {n : Refusal} → seeking c bs t (get_or targets i 0) ≡ Err n → on_from i c ≡ []
     unfolding then_seeks
     turn-refused e = turn ∙ rw e
 
@@ -111,7 +117,7 @@ module _ (bs : List ℕ) (t : Term) (targets : List ℕ) where
   module _ {docs₀ freqs₀ docs freqs : List ℕ} {c : SegmentPostings} {i : ℕ} (s : Serving docs₀ freqs₀ docs freqs c i) where
     module _ (below : i < length targets) where
       pub serving_on : length targets ≤ length docs₀ → length targets ≤ length freqs₀
-          → {d : SegmentPostings} → seeking c bs t (get_or targets i 0) ≡ ok d → {docs' freqs' : List ℕ} → Stored t d i docs freqs docs' freqs'
+          → {d : SegmentPostings} → seeking c bs t (get_or targets i 0) ≡ Ok d → {docs' freqs' : List ℕ} → Stored t d i docs freqs docs' freqs'
           → Serving docs₀ freqs₀ docs' freqs' d (i + 1)
       serving_on docs_room freqs_room {d} e k =
           let on = turn_on i c below e in
@@ -124,7 +130,7 @@ module _ (bs : List ℕ) (t : Term) (targets : List ℕ) where
             freqs_so = s.freqs_so ∙ rw k.freqs_after (stored_on (freq_on t) i c d freqs below (omega (arith, s.freqs_long)) on);
           }
 
-      pub serving_refused : {n : ℕ} → seeking c bs t (get_or targets i 0) ≡ refused n → Served t (seeks bs t targets) docs₀ freqs₀ docs freqs i
+      pub serving_refused : {n : Refusal} → seeking c bs t (get_or targets i 0) ≡ Err n → Served t (seeks bs t targets) docs₀ freqs₀ docs freqs i
       serving_refused e =
           let none = turn-refused i c below e in
           record {

@@ -1,10 +1,8 @@
 -- Seeks in order on one cursor, up to the first refusal, and what is stored of their answers.
 -- Assumes nothing.
-use Rattle.std.specs.Prelude.{◌&&◌ as and, List, [], ◌∷◌, map, ◌≡◌, ℕ, ◌<◌, leb, length, set}
+use Rattle.std.specs.Prelude.{◌&&◌ as and, List, [], ◌∷◌, map, ◌≡◌, ℕ, ◌<◌, leb, length, set, Ok, Err}
 use Rattle.format.specs.declared.Term.{Term}
-use Rattle.format.specs.Basics.{Outcome, ok, refused, choose, put_at, or_before}
-use Rattle.segment_postings.specs.declared.Answer.{Answer}
-use Rattle.segment_postings.specs.declared.Answer.TheVariants.{At, Refused}
+use Rattle.format.specs.Basics.{Outcome, choose, put_at, or_before}
 use Rattle.segment_postings.specs.declared.Held.{Held}
 use Rattle.segment_postings.specs.declared.SegmentPostings.{SegmentPostings}
 use Rattle.segment_postings.specs.Cursor.{opening, seeking, answer_at_of}
@@ -13,8 +11,8 @@ use Rattle.segment_postings.specs.Cursor.{opening, seeking, answer_at_of}
 
 -- where a seek came to, and what follows from there; a refused one has nothing behind it
 unfoldable pub then_seeks : Outcome SegmentPostings → (SegmentPostings → List SegmentPostings) → List SegmentPostings
-then_seeks (ok c) go = c ∷ go c
-then_seeks (refused n) go = []
+then_seeks (Ok c) go = c ∷ go c
+then_seeks (Err n) go = []
 
 -- the cursor after each target that is served
 unfoldable pub seeks_from : List ℕ → Term → SegmentPostings → List ℕ → List SegmentPostings
@@ -35,22 +33,14 @@ served_in t bs targets docs_room freqs_room =
 
 -- ---- their answers
 
-unfoldable pub doc_of : Answer → ℕ
-doc_of (At doc freq unpacked entries) = doc
-doc_of (Refused n) = 0
-
-unfoldable pub freq_of : Answer → ℕ
-freq_of (At doc freq unpacked entries) = freq
-freq_of (Refused n) = 0
-
 -- the document and the frequency at a cursor's position, at the end TERMINATED and 0
 unfoldable pub doc_on : Term → SegmentPostings → ℕ
-unfolding doc_of answer_at_of
-doc_on t c = doc_of (answer_at_of t c)
+unfolding answer_at_of
+doc_on t c = (answer_at_of t c).doc
 
 unfoldable pub freq_on : Term → SegmentPostings → ℕ
-unfolding freq_of answer_at_of
-freq_on t c = freq_of (answer_at_of t c)
+unfolding answer_at_of
+freq_on t c = (answer_at_of t c).freq
 
 -- how many were served, and what both slices hold: theirs at the start, the rest as before
 pub record Served (t : Term) (cs : List SegmentPostings) (docs freqs docs' freqs' : List ℕ) (r : ℕ) : Type 0 where

@@ -7,7 +7,7 @@ ghost use Rattle.segment_postings.specs.Calls.{cursor_of};
 ghost use Rattle.bench.specs.Seeks.{Room, Stored, Served, seeks, served_in};
 
 use format::{TERMINATED, Term};
-use segment_postings::{Answer, Held, Reached, answer_at, open_in, seek_in};
+use segment_postings::{Held, answer_at, open_in, seek_in};
 
 // Stores the document and the frequency at the position, at the end TERMINATED and 0.
 fn put_answer(
@@ -23,17 +23,9 @@ fn put_answer(
     ensures { Stored term (cursor_of held block_docs.now block_freqs.now) at docs.old freqs.old
         docs.new freqs.new }
 {
-    let Answer::At {
-        doc,
-        freq,
-        unpacked: _,
-        entries: _,
-    } = answer_at(held, term, block_docs, block_freqs)
-    else {
-        return;
-    };
-    docs[at] = doc;
-    freqs[at] = freq;
+    let answer = answer_at(held, term, block_docs, block_freqs).unwrap();
+    docs[at] = answer.doc;
+    freqs[at] = answer.freq;
 }
 
 // Opens a list and seeks the targets in order, up to the first refusal: how many were served.
@@ -50,25 +42,16 @@ fn seek_each(
 {
     let mut block_docs = [TERMINATED; 128];
     let mut block_freqs = [1; 128];
-    let Reached::At(first) = open_in(image, term, &mut block_docs, &mut block_freqs) else {
+    let Ok(first) = open_in(image, term, &mut block_docs, &mut block_freqs) else {
         return 0;
     };
     let mut held = first;
-    for i in 0..targets.len() {
-        match seek_in(
-            held,
-            image,
-            term,
-            targets[i],
-            &mut block_docs,
-            &mut block_freqs,
-        ) {
-            Reached::At(next) => {
-                put_answer(next, term, &block_docs, &block_freqs, docs, freqs, i);
-                held = next;
-            }
-            Reached::Refused(_) => return i,
-        }
+    for (i, &target) in targets.iter().enumerate() {
+        let Ok(next) = seek_in(held, image, term, target, &mut block_docs, &mut block_freqs) else {
+            return i;
+        };
+        put_answer(next, term, &block_docs, &block_freqs, docs, freqs, i);
+        held = next;
     }
     targets.len()
 }

@@ -1,22 +1,22 @@
 -- What the exported functions answer, one number for each answer of the library, and what they leave in all that is lent.
 -- Assumes nothing.
-use Rattle.std.specs.Prelude.{◌≡◌, Bool, not, List, ℕ, ◌+◌, ◌^◌, eqb}
-use Rattle.format.specs.Basics.{Outcome, ok}
+use Rattle.std.specs.Prelude.{◌≡◌, Bool, not, List, ℕ, ◌+◌, ◌^◌, eqb, Ok, Err}
+use Rattle.format.specs.declared.refusal.Refusal.{Refusal}
+use Rattle.format.specs.Basics.{Outcome}
+use Rattle.format.specs.Refusal.{number_of}
 use Rattle.format.specs.Accepted.{kept_in}
 use Rattle.serializer.specs.declared.PostingsSerializer.{PostingsSerializer}
-use Rattle.serializer.specs.declared.Written.{Written}
-use Rattle.serializer.specs.declared.Written.TheVariants.{Bytes, Refused}
 use Rattle.serializer.specs.Writer.{Areas, listing, announcing, take_all_docs}
 use Rattle.serializer.specs.Calls.{ListLeft}
 
 -- a refusal's number above 2 ^ 63, which no count, rank, total or image's length reaches (proofs/ToldApart.antt)
-abbrev pub marked : ℕ → ℕ
-marked k = 2 ^ 63 + k
+abbrev pub marked : Refusal → ℕ
+marked r = 2 ^ 63 + number_of r
 
--- a number of bytes, or a refusal's number with its mark
-unfoldable pub coded : Written → ℕ
-coded (Bytes n) = n
-coded (Refused k) = marked k
+-- the number that was asked for, or a refusal's number with its mark
+abbrev pub coded : Outcome ℕ → ℕ
+coded (Ok n) = n
+coded (Err r) = marked r
 
 -- whether frequencies are recorded: 0 says no, any other number yes
 abbrev pub recorded : ℕ → Bool
@@ -24,7 +24,7 @@ recorded n = not (eqb n 0)
 
 -- what a whole list answers as a number, and leaves, by its outcome
 pub record LeftCoded (o : Outcome (List ℕ)) (mode recording : ℕ) (ds fs skips postings output skips' postings' output' : List ℕ) (r : ℕ) : Type 0 where
-  pub answer : Written
+  pub answer : Outcome ℕ
   pub left : ListLeft o (kept_in mode (recorded recording)) ds fs skips postings output skips' postings' output' answer
   pub number : r ≡ coded answer
 
@@ -42,9 +42,4 @@ DocsCoded mode recording ds fs announced skips postings output skips' postings' 
 
 -- every document is taken
 abbrev pub Takes : PostingsSerializer → (ds fs skips postings : List ℕ) → Areas → Type 0
-Takes s ds fs skips postings a = take_all_docs s ds fs skips postings ≡ ok a
-
--- the list is written under the announced count
-abbrev pub Announced : ℕ → Bool → ℕ → (ds fs skips postings output : List ℕ) → Type 0
-Announced mode recording announced ds fs skips postings output =
-    (image : List ℕ) × (announcing mode recording announced ds fs skips postings output ≡ ok image)
+Takes s ds fs skips postings a = take_all_docs s ds fs skips postings ≡ Ok a

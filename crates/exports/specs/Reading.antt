@@ -3,18 +3,11 @@
 use Rattle.std.specs.Prelude.{List, ◌≡◌, ℕ}
 use Rattle.format.specs.Basics.{Outcome}
 use Rattle.format.specs.Reading.{Block}
-use Rattle.segment_postings.specs.declared.Value.{Value}
-use Rattle.segment_postings.specs.declared.Value.TheVariants.{Is, Refused}
 use Rattle.segment_postings.specs.ReadWhole.{WholeRead}
-use Rattle.exports.specs.Exports.{marked}
-
--- the number that was asked for, or a refusal's with its mark
-unfoldable pub coded_value : Value → ℕ
-coded_value (Is n) = n
-coded_value (Refused k) = marked k
+use Rattle.exports.specs.Exports.{coded}
 
 -- a whole list read into two slices
 pub record ReadCoded (o : Outcome (List Block)) (docs freqs docs' freqs' : List ℕ) (r : ℕ) : Type 0 where
-  pub answer : Value
+  pub answer : Outcome ℕ
   pub read : WholeRead o docs freqs docs' freqs' answer
-  pub number : r ≡ coded_value answer
+  pub number : r ≡ coded answer

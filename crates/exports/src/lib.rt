@@ -1,4 +1,5 @@
-// The library for Rust and C: functions of plain numbers and slices. Each answers one number.
+// The library for Rust and C: functions of plain numbers and slices. Each answers one number. Modes and flags are bytes, and slices stand
+// side by side, since C hands them in.
 
 #![tactic(auto)]
 
@@ -9,24 +10,11 @@ mod reading;
 ghost use Rattle.std.specs.Prelude.{◌≡◌, length};
 ghost use Rattle.serializer.specs.Writer.{Areas};
 ghost use Rattle.serializer.specs.Calls.{state_of, ListedAs};
-ghost use Rattle.exports.specs.Exports.{coded, ListCoded, DocsCoded, Takes, Announced};
+ghost use Rattle.exports.specs.Exports.{ListCoded, DocsCoded, Takes};
 
-use crate::mark::mark;
-use format::UNKNOWN_MODE;
-use serializer::{
-    Accepted, Progress, Progressed, Written, ask_list, close_term_in, new_term_in, write_doc_in,
-    write_list,
-};
-
-// A number of bytes as it is, and a refusal with its mark.
-fn code(answer: Written) -> u64
-    ensures { result ≡ coded answer }
-{
-    match answer {
-        Written::Bytes(n) => n as u64,
-        Written::Refused(n) => mark(n),
-    }
-}
+use crate::mark::code;
+use format::Refusal;
+use serializer::{Progress, ask_list, close_term_in, new_term_in, write_doc_in, write_list};
 
 // A whole list: its image's length, or 2 ^ 63 and the refusal's number. Frequencies are recorded where `recording` isn't 0.
 #[unsafe(no_mangle)]
@@ -42,7 +30,8 @@ pub extern "C" fn vilthorwy_write_list(
     ensures { ListCoded mode recording ids.now freqs.now skips.old postings.old output.old
         skips.new postings.new output.new result }
 {
-    code(write_list(mode, recording != 0, ids, freqs, skips, postings, output))
+    let written = write_list(mode, recording != 0, ids, freqs, skips, postings, output);
+    code(written.map(|n| n as u64))
 }
 
 // Hands the documents in one by one, each of which is taken; the numbers behind them. Those that wait for their block stay in two arrays.
@@ -62,24 +51,22 @@ fn write_each(
         (record { state = state_of result block_docs.new block_freqs.new; skips = skips.new; postings = postings.new }) }
 {
     let mut progress = first;
-    for i in 0..ids.len() {
-        match write_doc_in(
+    for (&id, &freq) in ids.iter().zip(freqs) {
+        progress = write_doc_in(
             progress,
-            ids[i],
-            freqs[i],
+            id,
+            freq,
             block_docs,
             block_freqs,
             skips,
             postings,
-        ) {
-            Progressed::At(next) => progress = next,
-            Progressed::Refused(_) => return progress,
-        }
+        ).unwrap();
     }
     progress
 }
 
-// Writes a list whose questions were all answered yes: a term is begun, each document written, and the term closed.
+// Writes a list by single calls: a term is begun, each document written, and the term closed. Every question is asked before the first of
+// them, as for a whole list, with 14 for another count behind the documents' questions, so that a refusal changes nothing.
 fn write_term(
     mode: u8,
     recording: bool,
@@ -89,14 +76,21 @@ fn write_term(
     skips: &mut [u8],
     postings: &mut [u8],
     output: &mut [u8],
-) -> Written
-    requires { Announced mode recording announced ids.now freqs.now skips.old postings.old output.old }
+) -> Result<usize, Refusal>
     ensures { ListedAs mode recording announced ids.now freqs.now skips.old postings.old
         output.old skips.new postings.new output.new result }
 {
-    let Progressed::At(first) = new_term_in(mode, recording) else {
-        return Written::Refused(UNKNOWN_MODE);
-    };
+    ask_list(
+        mode,
+        recording,
+        ids,
+        freqs,
+        announced as usize,
+        skips,
+        postings,
+        output,
+    )?;
+    let first = new_term_in(mode, recording)?;
     let mut block_docs = [0u32; 128];
     let mut block_freqs = [0u32; 128];
     let progress = write_each(
@@ -120,8 +114,7 @@ fn write_term(
     closed.answer
 }
 
-// The same by single calls, under an announced count. Every question is asked before the first of them, as for a whole list, with 14 for
-// another count behind the documents' questions, so that a refusal changes nothing.
+// The same by single calls, under an announced count; a refusal changes nothing.
 #[unsafe(no_mangle)]
 pub extern "C" fn vilthorwy_write_docs(
     mode: u8,
@@ -137,21 +130,15 @@ pub extern "C" fn vilthorwy_write_docs(
         skips.old postings.old output.old
         skips.new postings.new output.new result }
 {
-    let recorded = recording != 0;
-    let asked = ask_list(
+    let written = write_term(
         mode,
-        recorded,
+        recording != 0,
         ids,
         freqs,
-        announced as usize,
+        announced,
         skips,
         postings,
         output,
     );
-    if let Accepted::Refused(n) = asked {
-        return mark(n);
-    }
-    code(write_term(
-        mode, recorded, ids, freqs, announced, skips, postings, output,
-    ))
+    code(written.map(|n| n as u64))
 }

@@ -4,24 +4,15 @@ ghost use Rattle.std.specs.Prelude.{◌≡◌, length};
 ghost use Rattle.format.specs.Counts as counts;
 ghost use Rattle.format.specs.Reading.{soundness};
 ghost use Rattle.segment_postings.specs.Cursor.{ranking};
-ghost use Rattle.segment_postings.specs.Calls.{valued};
 ghost use Rattle.segment_postings.specs.ReadWhole.{read_whole};
-ghost use Rattle.exports.specs.Reading.{coded_value, ReadCoded};
+ghost use Rattle.serializer.specs.Calls.{accepted_number};
+ghost use Rattle.exports.specs.Exports.{coded};
+ghost use Rattle.exports.specs.Reading.{ReadCoded};
 
-use crate::mark::mark;
+use crate::mark::code;
 use format::Term;
 use segment_postings::validate::validate;
-use segment_postings::{Value, rank, read, total};
-
-// A number as it is, and a refusal with its mark.
-fn code_value(value: Value) -> u64
-    ensures { result ≡ coded_value value }
-{
-    match value {
-        Value::Is(n) => n,
-        Value::Refused(n) => mark(n),
-    }
-}
+use segment_postings::{rank, read, total};
 
 // All documents and their frequencies, in order, at the start of both slices: how many, or 2 ^ 63 and the refusal's number.
 #[unsafe(no_mangle)]
@@ -42,29 +33,32 @@ pub extern "C" fn vilthorwy_read(
         requested,
         count,
     };
-    code_value(read(image, term, docs, freqs))
+    code(read(image, term, docs, freqs))
 }
 
 // How many documents lie below the target, or 2 ^ 63 and the refusal's number.
 #[unsafe(no_mangle)]
 pub extern "C" fn vilthorwy_rank(mode: u8, count: u32, image: &[u8], target: u32) -> u64
-    ensures { result ≡ coded_value (valued (ranking mode count image.now target)) }
+    ensures { result ≡ coded (ranking mode count image.now target) }
 {
-    code_value(rank(image, mode, count, target))
+    code(rank(image, mode, count, target))
 }
 
 // The sum of their frequencies, or 2 ^ 63 and the refusal's number.
 #[unsafe(no_mangle)]
 pub extern "C" fn vilthorwy_total(mode: u8, count: u32, image: &[u8], target: u32) -> u64
-    ensures { result ≡ coded_value (valued (counts.total mode count image.now target)) }
+    ensures { result ≡ coded (counts.total mode count image.now target) }
 {
-    code_value(total(image, mode, count, target))
+    code(total(image, mode, count, target))
 }
 
 // 0 where an image is sound, else the refusal's number.
 #[unsafe(no_mangle)]
 pub extern "C" fn vilthorwy_validate(mode: u8, count: u32, image: &[u8]) -> u64
-    ensures { result ≡ soundness mode count image.now }
+    ensures { result ≡ accepted_number (soundness mode count image.now) }
 {
-    validate(image, mode, count) as u64
+    match validate(image, mode, count) {
+        Ok(()) => 0,
+        Err(refusal) => refusal.number() as u64,
+    }
 }

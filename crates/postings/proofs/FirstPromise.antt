@@ -5,17 +5,19 @@
 -- Each theorem takes what a call's contract ensures. That each call ends is the checker's verdict over every function. The numbers of
 -- the refusals are those of the definitions that the contracts cite. For single calls of the writer see SingleCalls.antt.
 -- Assumes nothing.
+use Rattle.std.specs.Prelude.{Ok, Err}
+use Rattle.format.specs.declared.refusal.Refusal.{Refusal}
 use mathlib.Core.Bool.{Bool, true, not, ◌&&◌ as and, ◌||◌ as or, and-eq-true_iff}
 use mathlib.Core.List.{List, [], ◌∷◌}
 use mathlib.Core.Logic.{◌↔◌}
-use mathlib.Core.Path.{◌≡◌, refl, sym, ap, ◌∙◌}
+use mathlib.Core.Path.{◌≡◌, refl, ◌∙◌}
 use Prim.Native.Nat.{ℕ, ◌+◌, ◌≤◌, ◌<◌, ◌^◌}
 use native.Mathlib.Omega.{arith}
 use borrow.Author.Tests.{eq-eqb}
 use lib.Dec.{leb, ltb}
 use lib.ListN.{length}
 use Rattle.format.specs.declared.IndexRecordOption.{IndexRecordOption}
-use Rattle.format.specs.Basics.{Outcome, ok, and_then, ask, TERMINATED, AllBelow, or_before}
+use Rattle.format.specs.Basics.{Outcome, and_then, ask, TERMINATED, AllBelow, or_before}
 use Rattle.format.specs.SkipEntry.{has_freq_of}
 use Rattle.format.specs.Values.{rising, countable}
 use Rattle.format.specs.Written.{image}
@@ -23,10 +25,7 @@ use Rattle.format.specs.Accepted.{kept_in, begin, take_doc, take_docs, written, 
 use Rattle.format.specs.Reading.{soundness}
 use Rattle.format.proofs.Accepted.{known_mode_lem, written-ok}
 use Rattle.format.proofs.Choice.{granted}
-use Rattle.serializer.specs.declared.Accepted.{Accepted as Answered}
 use Rattle.serializer.specs.declared.PostingsSerializer.{PostingsSerializer}
-use Rattle.serializer.specs.declared.Written.{Written}
-use Rattle.serializer.specs.declared.Written.TheVariants.{Bytes}
 use Rattle.serializer.specs.Writer.{Areas, listing}
 use Rattle.serializer.specs.Calls.{answered, accepted_number, written_numbers, Listed}
 use Rattle.serializer.proofs.Laws.AnswerTells.{answered-bytes, answered-refused}
@@ -36,12 +35,12 @@ use Rattle.segment_postings.proofs.Admission.AdmissionExact.{admission_admits, a
 use Rattle.postings.specs.FirstPromise.{Acceptable}
 use Rattle.postings.specs.WriterCalls.{Hands, Closes}
 use Rattle.postings.proofs.WriterManners.{hands_gives, gives-no, closes_as}
-use Rattle.postings.proofs.WriterNumbers.{listing-numbered, zero-bytes, bytes-numbers, above-no, above-refused}
+use Rattle.postings.proofs.WriterNumbers.{zero-bytes, bytes-numbers, above-no, above-refused}
 
 -- ---- accepted lists
 
 taken : (option : IndexRecordOption) (least d f : ℕ) (ds fs : List ℕ) → Accepted option least (d ∷ ds) (f ∷ fs)
-    → (take_doc option least d f ≡ ok (d + 1)) × Accepted option (d + 1) ds fs
+    → (take_doc option least d f ≡ Ok (d + 1)) × Accepted option (d + 1) ds fs
 unfolding take_doc ask rising countable
 taken option least d f ds fs a =
     let rises : and (and (leb least d) (ltb d TERMINATED)) (rising (d + 1) ds) ≡ true = a.rises in
@@ -57,7 +56,7 @@ taken option least d f ds fs a =
     )
 
 all-taken : (option : IndexRecordOption) (least : ℕ) (ds fs : List ℕ) → Accepted option least ds fs
-    → (next : ℕ) × (take_docs option least ds fs ≡ ok next)
+    → (next : ℕ) × (take_docs option least ds fs ≡ Ok next)
 unfolding take_docs and_then
 all-taken option least [] fs a = (least, refl)
 all-taken option least (d ∷ ds) [] a = absurd (omega (arith, a.as_many))
@@ -67,14 +66,14 @@ all-taken option least (d ∷ ds) (f ∷ fs) a =
     (q.0, rw p.0 q.1)
 
 accepted-written : (mode : ℕ) (recording : Bool) (ds fs : List ℕ) → mode ≤ 1 → Accepted (kept_in mode recording) 0 ds fs
-    → written mode recording ds fs ≡ ok (image (kept_in mode recording) ds fs)
+    → written mode recording ds fs ≡ Ok (image (kept_in mode recording) ds fs)
 unfolding written begin and_then ask
 accepted-written mode recording ds fs known a =
     let p = all-taken (kept_in mode recording) 0 ds fs a in
     rw (known_mode_lem mode known, eq-eqb (length ds) (length fs) a.as_many, p.1)
 
 module _ (mode : ℕ) (recording : Bool) (ds fs skips postings output : List ℕ) (small : AllBelow (2 ^ 32) fs) where
-  pub listed_acceptable : {bytes : List ℕ} → listing mode recording ds fs skips postings output ≡ ok bytes
+  pub listed_acceptable : {bytes : List ℕ} → listing mode recording ds fs skips postings output ≡ Ok bytes
       → Acceptable mode recording ds fs skips postings output
   listed_acceptable e =
       let p = (whole-list-writes mode recording ds fs skips postings output).0 e in
@@ -82,52 +81,50 @@ module _ (mode : ℕ) (recording : Bool) (ds fs skips postings output : List ℕ
       record { mode_known = w.mode_known; accepted = w.accepted; has_room = rw w.bytes at p.1 }
 
   pub acceptable_listed : Acceptable mode recording ds fs skips postings output
-      → listing mode recording ds fs skips postings output ≡ ok (image (kept_in mode recording) ds fs)
+      → listing mode recording ds fs skips postings output ≡ Ok (image (kept_in mode recording) ds fs)
   acceptable_listed a =
       (whole-list-writes mode recording ds fs skips postings output).1
       (accepted-written mode recording ds fs a.mode_known a.accepted, a.has_room)
 
   -- a list is accepted exactly then: `write_list` answers 0 and a number of bytes, and else a refusal's number
-  pub list-accepted : {skips' postings' output' : List ℕ} {r : Written} → Listed mode recording ds fs skips postings output skips' postings' output' r
+  pub list-accepted : {skips' postings' output' : List ℕ} {r : Outcome ℕ} → Listed mode recording ds fs skips postings output skips' postings' output' r
       → ((n : ℕ) × (written_numbers r ≡ 0 ∷ n ∷ [])) ↔ Acceptable mode recording ds fs skips postings output
   unfolding answered
   list-accepted {r = r} l =
-      let o : Outcome (List ℕ) = listing mode recording ds fs skips postings output in
-      let bytes : (n : ℕ) → written_numbers r ≡ 0 ∷ n ∷ [] → answered length o ≡ Bytes n =
-      λ n e. zero-bytes length o (listing-numbered ds fs mode recording skips postings output) (ap written_numbers (sym l.answer) ∙ e) in (
-        λ b. listed_acceptable (answered-bytes length o refl (bytes b.0 b.1)).1,
+      let o : Outcome (List ℕ) = listing mode recording ds fs skips postings output in (
+        λ b. listed_acceptable (answered-bytes length o l.answer (zero-bytes r b.1)).1,
         λ a. (length (image (kept_in mode recording) ds fs), bytes-numbers (l.answer ∙ rw (acceptable_listed a))),
       )
 
 -- ---- admitted images
 
--- what `validate` answers: 0 exactly where opening and a walk by `advance` over the whole image, frequencies requested, meet no refusal,
--- and any other number exactly where that is the first refusal that they meet
-pub image_admitted : (mode count : ℕ) (bs : List ℕ) {r : ℕ} → r ≡ soundness mode count bs
-    → ((r ≡ 0) ↔ MeetsNone bs (record { mode = mode; requested = 1; count = count }))
-    × ((n : ℕ) → 0 < n → (r ≡ n) ↔ Meets bs (record { mode = mode; requested = 1; count = count }) n)
+-- what `validate` answers: yes exactly where opening and a walk by `advance` over the whole image, frequencies requested, meet no refusal,
+-- and a refusal exactly where that is the first that they meet
+pub image_admitted : (mode count : ℕ) (bs : List ℕ) {answer : Outcome (Unit {0})} → answer ≡ soundness mode count bs
+    → ((answer ≡ Ok tt) ↔ MeetsNone bs (record { mode = mode; requested = 1; count = count }))
+    × ((r : Refusal) → (answer ≡ Err r) ↔ Meets bs (record { mode = mode; requested = 1; count = count }) r)
 image_admitted mode count bs e = rw e (admission_admits mode count bs, admission_refuses mode count bs)
 
 -- ---- refusals leave all as it was; those of the cursor are `refused-stays` in ThirdPromise.antt
 
 -- a document, in either manner: any answer but 0
-pub refused_document : {d f : ℕ} {a b : Areas} {answer : Answered} → Hands d f a answer b → 0 < accepted_number answer → b ≡ a
-refused_document {answer = answer} h above = gives-no (hands_gives h) (above-no answer above)
+pub refused_document : {d f : ℕ} {a b : Areas} {answer : Outcome (Unit {0})} → Hands d f a answer b → 0 < accepted_number answer → b ≡ a
+refused_document {answer = answer} h above = gives-no (hands_gives h) (above-no answer above).1
 
 -- closing, in either manner
-pub refused-closing : {announced : ℕ} {a : Areas} {output output' : List ℕ} {answer : Written} {last : PostingsSerializer} {n : ℕ}
+pub refused-closing : {announced : ℕ} {a : Areas} {output output' : List ℕ} {answer : Outcome ℕ} {last : PostingsSerializer} {n : ℕ}
     → Closes announced a output answer output' last → 0 < n → written_numbers answer ≡ n ∷ 0 ∷ [] → (last ≡ a.state) × (output' ≡ output)
 unfolding or_before
 refused-closing {answer = answer} k above e =
     let c = closes_as k in
-    let no = answered-refused length _ c.answered_as (above-refused answer above e) in
+    let no = answered-refused length _ c.answered_as (above-refused answer above e).1 in
     (c.stays no, rw no at c.output_after)
 
 -- a whole list, by `write_list`
-pub refused-list : (mode : ℕ) (recording : Bool) (ds fs skips postings output : List ℕ) {skips' postings' output' : List ℕ} {r : Written} {n : ℕ}
+pub refused-list : (mode : ℕ) (recording : Bool) (ds fs skips postings output : List ℕ) {skips' postings' output' : List ℕ} {r : Outcome ℕ} {n : ℕ}
     → Listed mode recording ds fs skips postings output skips' postings' output' r → 0 < n → written_numbers r ≡ n ∷ 0 ∷ []
     → (skips' ≡ skips) × (postings' ≡ postings) × (output' ≡ output)
 unfolding or_before
 refused-list mode recording ds fs skips postings output {r = r} h above e =
-    let no = answered-refused length (listing mode recording ds fs skips postings output) h.answer (above-refused r above e) in
+    let no = answered-refused length (listing mode recording ds fs skips postings output) h.answer (above-refused r above e).1 in
     (rw no at h.skips_after, rw no at h.postings_after, rw no at h.output_after)

@@ -5,16 +5,18 @@
 -- document 01 names beside it, unpacking all at opening, would refuse at opening. Last, a lent cursor that came from no
 -- image, whose next block begins before the posting bytes.
 -- Assumes nothing.
+use Rattle.std.specs.Prelude.{Ok, Err}
 use mathlib.Core.Path.{◌≡◌, refl}
 use mathlib.Core.List.{List, [], ◌∷◌, ◌++◌}
 use Prim.Native.Nat.{ℕ, ◌+◌, ◌≤◌, ◌<◌}
 use borrow.Author.Tests.{eq-eqb, lt-ltb, le-leb, lt-leb}
 use lib.ListN.{length, get_or, replicate}
+use Rattle.format.specs.declared.refusal.Refusal.TheVariants.{EntryBroken, DocsNotRising, NumberBroken}
 use Rattle.format.specs.declared.Term.{Term}
-use Rattle.format.specs.Basics.{ask, choose, TERMINATED}
+use Rattle.format.specs.Basics.{ask, choose, TERMINATED, Outcome}
 use Rattle.format.specs.Model.{step, seek}
 use Rattle.block_search.specs.Search.{pivots_below_of}
-use Rattle.segment_postings.specs.declared.Answer.TheVariants.{At, Refused}
+use Rattle.segment_postings.specs.declared.Answer.{Answer}
 use Rattle.segment_postings.specs.declared.SegmentPostings.{SegmentPostings}
 use Rattle.segment_postings.specs.Cursor.{position, stepping, advanced, seeking, sought}
 use Rattle.segment_postings.specs.Called.{calls}
@@ -51,6 +53,10 @@ module _ (c : SegmentPostings) (t : Term) (bs bs' : List ℕ) (same : length bs 
 
 -- ---- one image
 
+-- an answer in one block of these: its document, with nothing that isn't 1 beside it
+abbrev at : ℕ → Outcome Answer
+at doc = Ok (record { doc = doc; freq = 1; unpacked = 1; entries = 1 })
+
 -- the ids 0 to 128 in mode 0, the tail's number cut short: its first block is read as it stands, the tail refused under 8 by the calls
 -- that would land on it, and the next call finds the cursor in the first block again
 abbrev late : List ℕ
@@ -58,7 +64,7 @@ late = 0x85 ∷ 0x7F ∷ 0 ∷ 0 ∷ 0 ∷ 0x40 ∷ 0x01 ∷ []
 
 pub refused_once_landed_on :
     calls late (record { mode = 0; requested = 0; count = 129 }) (seek 127 ∷ step ∷ seek 128 ∷ seek 5 ∷ [])
-    ≡ At 0 1 1 1 ∷ At 127 1 1 1 ∷ Refused 8 ∷ Refused 8 ∷ At 127 1 1 1 ∷ []
+    ≡ at 0 ∷ at 127 ∷ Err NumberBroken ∷ Err NumberBroken ∷ at 127 ∷ []
 unfolding calls pivots_below_of
 refused_once_landed_on = refl
 
@@ -80,15 +86,15 @@ lent next = record {
 }
 
 -- question 5, not what the skip bytes would give
-pub before_the_posting_bytes : advanced (lent 0) two_blocks two_term ≡ record { answer = Refused 5; cursor = lent 0 }
+pub before_the_posting_bytes : advanced (lent 0) two_blocks two_term ≡ record { answer = Err EntryBroken; cursor = lent 0 }
 unfolding advanced
 before_the_posting_bytes = refl
 
-pub just_before : sought (lent 10) two_blocks two_term 128 ≡ record { answer = Refused 5; cursor = lent 10 }
+pub just_before : sought (lent 10) two_blocks two_term 128 ≡ record { answer = Err EntryBroken; cursor = lent 10 }
 unfolding sought pivots_below_of
 just_before = refl
 
 -- where they begin, question 5 is answered yes: the block doesn't end on its entry's last id
-pub at_the_posting_bytes : advanced (lent 11) two_blocks two_term ≡ record { answer = Refused 6; cursor = lent 11 }
+pub at_the_posting_bytes : advanced (lent 11) two_blocks two_term ≡ record { answer = Err DocsNotRising; cursor = lent 11 }
 unfolding advanced
 at_the_posting_bytes = refl

@@ -19,6 +19,7 @@
 -- answers, and leave a cursor beside the model's state (segment_postings, CallsSimulate.antt `simulation`); the set is
 -- VisitedBlocks.antt's.
 -- Assumes nothing.
+use Rattle.std.specs.Prelude.{Ok, Err}
 use mathlib.Core.Path.{◌≡◌, refl, sym, ap, ap₂, ◌∙◌}
 use mathlib.Core.Bool.{true}
 use mathlib.Core.List.{List, ◌∷◌, map}
@@ -26,23 +27,22 @@ use Prim.Native.Nat.{ℕ, ◌+◌, ◌*◌, ◌/◌, ◌^◌, ◌≤◌, ◌<◌
 use native.Mathlib.Omega.{arith}
 use borrow.Author.Tests.{lt-ltb}
 use lib.ListN.{length, get_or}
+use Rattle.format.specs.declared.refusal.Refusal.{Refusal}
 use Rattle.format.specs.declared.Term.{Term}
-use Rattle.format.specs.Basics.{Outcome, ok, refused, put_at}
+use Rattle.format.specs.Basics.{Outcome, put_at}
 use Rattle.format.specs.Reading.{reading, soundness, docs_of, freqs_of}
 use Rattle.format.specs.Model.{Call, step, seek, answers}
+use Rattle.format.proofs.Outcome.{refused≢ok}
 use Rattle.format.proofs.Requested.{sound_requested}
 use Rattle.segment_postings.specs.declared.Answer.{Answer}
-use Rattle.segment_postings.specs.declared.Answer.TheVariants.{Refused}
 use Rattle.segment_postings.specs.declared.Held.{Held}
 use Rattle.segment_postings.specs.declared.Moved.{Moved}
-use Rattle.segment_postings.specs.declared.Reached.{Reached}
 use Rattle.segment_postings.specs.declared.SegmentPostings.{SegmentPostings}
 use Rattle.segment_postings.specs.Cursor.{moved, opened, stepping, seeking, advanced, sought}
 use Rattle.segment_postings.specs.Calls.{cursor_of, Leaves, Reaches}
 use Rattle.segment_postings.specs.Called.{reaching, called, calls_from, calls, cursor_after, positions, answer_length, entries_place, model_numbers}
 use Rattle.segment_postings.specs.Called.{SameCall}
 use Rattle.segment_postings.proofs.Laws.CallsByValue.{open_in_calls, advance_in_calls, seek_in_calls}
-use Rattle.segment_postings.proofs.Laws.LandingParts.{answer_at_of-at}
 use Rattle.segment_postings.proofs.Simulation.CallsSimulate.{shown-again, simulation}
 use Rattle.postings.specs.MixedCalls.{Manner, MadeCall, calls_of, Opened, handed_out, filled, unfilled}
 use Rattle.postings.specs.MixedCalls.{Meets, handed_back, left_there, came, stayed, Called, none, next}
@@ -58,18 +58,18 @@ use Rattle.postings.proofs.VisitedBlocks.{visited-blocks, visited-distinct}
 -- ---- a mixed list answers what its calls answer
 
 -- an answer and a cursor that m puts together
-leaves : {m : Moved} {a : Answer} {c : SegmentPostings} → record { answer = a; cursor = c } ≡ m → Leaves m a c
+leaves : {m : Moved} {a : Outcome Answer} {c : SegmentPostings} → record { answer = a; cursor = c } ≡ m → Leaves m a c
 leaves e = (ap (λ (m : Moved). m.answer) e, ap (λ (m : Moved). m.cursor) e)
 
 -- a call on arrays is the call by value on the cursor that they make with the numbers
-on_arrays_call : (bs : List ℕ) (t : Term) (call : Call) (held : Held) {docs freqs docs' freqs' : List ℕ} {r : Reached}
+on_arrays_call : (bs : List ℕ) (t : Term) (call : Call) (held : Held) {docs freqs docs' freqs' : List ℕ} {r : Outcome Held}
     → Reaches (reaching (cursor_of held docs freqs) bs t call) docs freqs docs' freqs' r
     → SameCall t (cursor_of held docs freqs) (called (cursor_of held docs freqs) bs t call) docs freqs docs' freqs' r
 unfolding reaching called
 on_arrays_call bs t step held k = advance_in_calls bs t _ k
 on_arrays_call bs t (seek target) held k = seek_in_calls bs t _ target k
 
-met : {bs : List ℕ} {t : Term} {call : Call} {manner : Manner} {c : SegmentPostings} {a : Answer} {c' : SegmentPostings}
+met : {bs : List ℕ} {t : Term} {call : Call} {manner : Manner} {c : SegmentPostings} {a : Outcome Answer} {c' : SegmentPostings}
     → Meets bs t call manner c a c' → Leaves (called c bs t call) a c'
 met (handed_back e) = leaves e
 met (left_there e) = e
@@ -78,7 +78,7 @@ met {bs} {t} {call} (came held {docs} {freqs} {docs'} {freqs'} {held'} k tells) 
 met {bs} {t} {call} (stayed held k) = let s = (on_arrays_call bs t call held k).stayed refl in leaves (rw (s.1, s.2) (sym s.0))
 
 -- on every image, admitted or not, each answer and each cursor is what the definition of its call gives
-pub called_are : {bs : List ℕ} {t : Term} {c d : SegmentPostings} {made : List MadeCall} {told : List Answer} → Called bs t c made told d
+pub called_are : {bs : List ℕ} {t : Term} {c d : SegmentPostings} {made : List MadeCall} {told : List (Outcome Answer)} → Called bs t c made told d
     → (told ≡ calls_from bs t c (calls_of made)) × (d ≡ cursor_after bs t c (calls_of made))
 unfolding calls_from cursor_after
 called_are none = (refl, refl)
@@ -88,16 +88,16 @@ called_are (next e later) =
     (ap₂ ◌∷◌ same.0 (rw same.1 at p.0), rw same.1 at p.1)
 
 -- .. and opening's
-pub opened_are : {bs : List ℕ} {t : Term} {a : Answer} {c : SegmentPostings} → Opened bs t a c → Leaves (opened bs t) a c
+pub opened_are : {bs : List ℕ} {t : Term} {a : Outcome Answer} {c : SegmentPostings} → Opened bs t a c → Leaves (opened bs t) a c
 opened_are (handed_out e) = leaves e
 opened_are {bs} {t} (filled {docs} {freqs} {docs'} {freqs'} {held} k tells) = leaves (rw tells (sym ((open_in_calls bs t k).came refl)))
 opened_are {bs} {t} (unfilled k) = leaves (sym ((open_in_calls bs t k).stayed refl).0)
 
 -- ---- the promise
 
-pub third_promise : (bs : List ℕ) (t : Term) → soundness t.mode t.count bs ≡ 0 → t.requested ≤ 2
-    → {first : Answer} {begun : SegmentPostings} → Opened bs t first begun
-    → {made : List MadeCall} {told : List Answer} {c : SegmentPostings} → Called bs t begun made told c
+pub third_promise : (bs : List ℕ) (t : Term) → soundness t.mode t.count bs ≡ Ok tt → t.requested ≤ 2
+    → {first : Outcome Answer} {begun : SegmentPostings} → Opened bs t first begun
+    → {made : List MadeCall} {told : List (Outcome Answer)} {c : SegmentPostings} → Called bs t begun made told c
     → Promised bs t (calls_of made) (first ∷ told) c
 unfolding calls
 third_promise bs t sound known opens {made = made} later =
@@ -122,21 +122,21 @@ third_promise bs t sound known opens {made = made} later =
 
 -- ---- after a refusal the next call gets the same cursor again
 
-refused-moved : (t : Term) (before : SegmentPostings) (o : Outcome SegmentPostings) {n : ℕ} → (moved t before o).answer ≡ Refused n
+refused-moved : (t : Term) (before : SegmentPostings) (o : Outcome SegmentPostings) {r : Refusal} → (moved t before o).answer ≡ Err r
     → (moved t before o).cursor ≡ before
 unfolding moved
-refused-moved t before (ok c) e = absurd (answer_at_of-at t c e)
-refused-moved t before (refused m) e = refl
+refused-moved t before (Ok c) e = absurd (refused≢ok (sym e))
+refused-moved t before (Err r) e = refl
 
-refused-called : (c : SegmentPostings) (bs : List ℕ) (t : Term) (call : Call) {n : ℕ} → (called c bs t call).answer ≡ Refused n
+refused-called : (c : SegmentPostings) (bs : List ℕ) (t : Term) (call : Call) {r : Refusal} → (called c bs t call).answer ≡ Err r
     → (called c bs t call).cursor ≡ c
 unfolding called advanced sought
 refused-called c bs t step e = refused-moved t c (stepping c bs t) e
 refused-called c bs t (seek target) e = refused-moved t c (seeking c bs t target) e
 
 -- in every manner, on every image, admitted or not
-pub refused-stays : {bs : List ℕ} {t : Term} {call : Call} {manner : Manner} {c c' : SegmentPostings} {n : ℕ}
-    → Meets bs t call manner c (Refused n) c' → c' ≡ c
+pub refused-stays : {bs : List ℕ} {t : Term} {call : Call} {manner : Manner} {c c' : SegmentPostings} {r : Refusal}
+    → Meets bs t call manner c (Err r) c' → c' ≡ c
 refused-stays {bs} {t} {call} {c = c} m = let p = met m in p.1 ∙ refused-called c bs t call (sym p.0)
 
 -- ---- the same of `run_calls`, which makes the calls that its numbers code, by value and on a lent cursor
@@ -172,7 +172,7 @@ codes_known (coded {n = n} code later) =
     }
 
 -- what its contract says, of the calls by value and on a lent cursor in any mixture: the places written are the model's answers in order
-pub run-calls_promise : (bs : List ℕ) (t : Term) → soundness t.mode t.count bs ≡ 0 → t.requested ≤ 2
+pub run-calls_promise : (bs : List ℕ) (t : Term) → soundness t.mode t.count bs ≡ Ok tt → t.requested ≤ 2
     → {made : List MadeCall} {ns : List ℕ} → Codes made ns → {out out' : List ℕ} {r : ℕ} → Runs bs t ns out out' r
     → answer_length * (length made + 1) ≤ length out
     → (r ≡ length made + 1)

@@ -1,7 +1,7 @@
 -- The size of the model's set is "the number of different blocks in which the position has been, opening included": the set holds no
 -- block twice, and a block is in it exactly where one of the model's positions lies in that block.
 -- Assumes nothing.
-use mathlib.Core.Bool.{Bool, true, false, ◌||◌ as or}
+use mathlib.Core.Bool.{Bool, true, false, ◌||◌ as or, or-false, or_comm, or_assoc}
 use mathlib.Core.List.{List, [], ◌∷◌}
 use mathlib.Core.Path.{◌≡◌, refl, sym, ◌∙◌}
 use Prim.Native.Nat.{ℕ, ◌/◌, ◌+◌, min}
@@ -68,19 +68,12 @@ follows_within {s} {s'} f = f.joins (s'.position / 128) ∙ rw (eq-eqb (s'.posit
 -- ---- a list of calls
 
 regrouped : (x y z : Bool) → or (or x y) z ≡ or y (or x z)
-regrouped true true z = refl
-regrouped true false z = refl
-regrouped false true z = refl
-regrouped false false z = refl
-
-none_more : (x : Bool) → or x false ≡ x
-none_more true = refl
-none_more false = refl
+regrouped x y z = rw (or_comm x y) (or_assoc y x z)
 
 visited-from : (ds : List ℕ) (s : State) (cs : List Call) (b : ℕ) → Within s
     → member b (after_all ds s cs).visited ≡ or (member b s.visited) (member b (blocks_of (positions_from ds s cs)))
 unfolding after_all positions_from member
-visited-from ds s [] b within = sym (none_more (member b s.visited))
+visited-from ds s [] b within = sym (or-false (member b s.visited))
 visited-from ds s (call ∷ cs) b within =
     let f = after_follows ds s call within in
     let later = visited-from ds (after ds s call) cs b (follows_within f) in
@@ -99,7 +92,7 @@ distinct_from ds s (call ∷ cs) within d =
 pub visited-blocks : (ds : List ℕ) (cs : List Call) (b : ℕ)
     → member b (after_all ds opened cs).visited ≡ member b (blocks_of (positions ds cs))
 unfolding opened positions member
-visited-blocks ds cs b = visited-from ds opened cs b refl ∙ rw (none_more (eqb b 0))
+visited-blocks ds cs b = visited-from ds opened cs b refl ∙ rw (or-false (eqb b 0))
 
 pub visited-distinct : (ds : List ℕ) (cs : List Call) → distinct (after_all ds opened cs).visited ≡ true
 unfolding opened distinct member

@@ -2,14 +2,14 @@
 -- (`open`, `advance`, `seek`), on a lent cursor (`advance_mut`, `seek_mut`), and on two lent arrays with the cursor's numbers beside
 -- them (`open_in`, `advance_in`, `seek_in`, and `answer_at` for what stands where they came to).
 -- Assumes nothing.
-use Rattle.std.specs.Prelude.{◌≡◌, List, [], ◌∷◌, map, ℕ, ◌+◌, ◌*◌, ◌^◌, ◌<◌}
+use Rattle.format.specs.Basics.{Outcome}
+use Rattle.std.specs.Prelude.{◌≡◌, List, [], ◌∷◌, map, ℕ, ◌+◌, ◌*◌, ◌^◌, ◌<◌, Ok, Err}
+use Rattle.format.specs.declared.refusal.Refusal.{Refusal}
 use Rattle.format.specs.declared.Term.{Term}
 use Rattle.format.specs.Model.{Call, step, seek}
 use Rattle.segment_postings.specs.declared.Answer.{Answer}
-use Rattle.segment_postings.specs.declared.Answer.TheVariants.{Refused}
 use Rattle.segment_postings.specs.declared.Held.{Held}
 use Rattle.segment_postings.specs.declared.Moved.{Moved}
-use Rattle.segment_postings.specs.declared.Reached.TheVariants as reached-as
 use Rattle.segment_postings.specs.declared.SegmentPostings.{SegmentPostings}
 use Rattle.segment_postings.specs.Cursor.{answering, blank, opening, opened}
 use Rattle.segment_postings.specs.Calls.{Leaves, cursor_of, Reaches}
@@ -29,40 +29,40 @@ abbrev pub calls_of : List MadeCall → List Call
 calls_of made = map (λ m. m.call) made
 
 -- what opening answered, and the cursor that there is then
-pub data Opened (bs : List ℕ) (t : Term) : Answer → SegmentPostings → Type 0 where
+pub data Opened (bs : List ℕ) (t : Term) : Outcome Answer → SegmentPostings → Type 0 where
   -- `open` hands back both
   handed_out : {r : Moved} → r ≡ opened bs t → Opened bs t r.answer r.cursor
   -- `open_in` hands back the cursor's numbers and fills two arrays, whatever they held; `answer_at` answers
-  filled : {docs freqs docs' freqs' : List ℕ} {held : Held} {answer : Answer}
-      → Reaches (opening bs t) docs freqs docs' freqs' (reached-as.At held)
+  filled : {docs freqs docs' freqs' : List ℕ} {held : Held} {answer : Outcome Answer}
+      → Reaches (opening bs t) docs freqs docs' freqs' (Ok held)
       → answer ≡ answering t (cursor_of held docs' freqs')
       → Opened bs t answer (cursor_of held docs' freqs')
   -- .. or is refused and hands back no numbers: the cursor that every call refuses stands for none
-  unfilled : {docs freqs docs' freqs' : List ℕ} {n : ℕ}
-      → Reaches (opening bs t) docs freqs docs' freqs' (reached-as.Refused n)
-      → Opened bs t (Refused n) blank
+  unfilled : {docs freqs docs' freqs' : List ℕ} {r : Refusal}
+      → Reaches (opening bs t) docs freqs docs' freqs' (Err r)
+      → Opened bs t (Err r) blank
 
 -- a call, its manner, the cursor that it gets, what it answered and the cursor after it
-pub data Meets (bs : List ℕ) (t : Term) (call : Call) : Manner → SegmentPostings → Answer → SegmentPostings → Type 0 where
+pub data Meets (bs : List ℕ) (t : Term) (call : Call) : Manner → SegmentPostings → Outcome Answer → SegmentPostings → Type 0 where
   -- by value it hands back both
   handed_back : {c : SegmentPostings} {r : Moved} → r ≡ called c bs t call → Meets bs t call by_value c r.answer r.cursor
   -- on a lent cursor it answers, and leaves the other in the caller's record
-  left_there : {c after : SegmentPostings} {answer : Answer} → Leaves (called c bs t call) answer after → Meets bs t call lent c answer after
+  left_there : {c after : SegmentPostings} {answer : Outcome Answer} → Leaves (called c bs t call) answer after → Meets bs t call lent c answer after
   -- on two arrays, which make the cursor together with its numbers, it came somewhere: it hands back other numbers, and `answer_at`
   -- answers of them and of the arrays as they are left
-  came : (held : Held) {docs freqs docs' freqs' : List ℕ} {held' : Held} {answer : Answer}
-      → Reaches (reaching (cursor_of held docs freqs) bs t call) docs freqs docs' freqs' (reached-as.At held')
+  came : (held : Held) {docs freqs docs' freqs' : List ℕ} {held' : Held} {answer : Outcome Answer}
+      → Reaches (reaching (cursor_of held docs freqs) bs t call) docs freqs docs' freqs' (Ok held')
       → answer ≡ answering t (cursor_of held' docs' freqs')
       → Meets bs t call on_arrays (cursor_of held docs freqs) answer (cursor_of held' docs' freqs')
   -- .. or was refused: the caller still has its numbers, and the arrays as they are left
-  stayed : (held : Held) {docs freqs docs' freqs' : List ℕ} {n : ℕ}
-      → Reaches (reaching (cursor_of held docs freqs) bs t call) docs freqs docs' freqs' (reached-as.Refused n)
-      → Meets bs t call on_arrays (cursor_of held docs freqs) (Refused n) (cursor_of held docs' freqs')
+  stayed : (held : Held) {docs freqs docs' freqs' : List ℕ} {r : Refusal}
+      → Reaches (reaching (cursor_of held docs freqs) bs t call) docs freqs docs' freqs' (Err r)
+      → Meets bs t call on_arrays (cursor_of held docs freqs) (Err r) (cursor_of held docs' freqs')
 
 -- a cursor, the calls, their answers, and the cursor after them: each call gets it as the last one left it
-pub data Called (bs : List ℕ) (t : Term) : SegmentPostings → List MadeCall → List Answer → SegmentPostings → Type 0 where
+pub data Called (bs : List ℕ) (t : Term) : SegmentPostings → List MadeCall → List (Outcome Answer) → SegmentPostings → Type 0 where
   none : {c : SegmentPostings} → Called bs t c [] [] c
-  next : {c c' d : SegmentPostings} {made : MadeCall} {rest : List MadeCall} {a : Answer} {answers : List Answer}
+  next : {c c' d : SegmentPostings} {made : MadeCall} {rest : List MadeCall} {a : Outcome Answer} {answers : List (Outcome Answer)}
       → Meets bs t made.call made.manner c a c' → Called bs t c' rest answers d
       → Called bs t c (made ∷ rest) (a ∷ answers) d
 

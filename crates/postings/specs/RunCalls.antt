@@ -1,14 +1,15 @@
 -- What `run_calls` answers and leaves in the lent answers, on every input, and what that is where the image is admitted.
 -- Assumes nothing.
-use Rattle.std.specs.Prelude.{◌≡◌, Bool, true, ◌&&◌ as and, ◌||◌ as or, List, [], ◌∷◌, map, ℕ, ◌+◌, ◌*◌, ◌/◌, ◌%◌, ◌^◌, ◌≤◌, eqb, leb, ltb, length, get_or}
+use Rattle.std.specs.Prelude.{◌≡◌, Bool, true, ◌&&◌ as and, ◌||◌ as or, List, [], ◌∷◌, map, ℕ, ◌+◌, ◌*◌, ◌/◌, ◌%◌, ◌^◌, ◌≤◌, eqb, leb, ltb, length, get_or, Option, Some, is_some, Ok, Err}
 use Rattle.format.specs.declared.Term.{Term}
-use Rattle.format.specs.Basics.{choose, put_at}
+use Rattle.format.specs.Basics.{choose, put_at, Outcome}
 use Rattle.format.specs.Reading.{reading, soundness, docs_of, freqs_of}
 use Rattle.format.specs.Model.{Call, step, seek, answers}
 use Rattle.segment_postings.specs.declared.Answer.{Answer}
-use Rattle.segment_postings.specs.declared.Answer.TheVariants.{At, Refused}
 use Rattle.segment_postings.specs.declared.Moved.{Moved}
 use Rattle.segment_postings.specs.Cursor.{opened}
+use Rattle.postings.specs.declared.calls.Coded.{Coded}
+use Rattle.postings.specs.declared.calls.Coded.TheVariants.{Advance, Seek, AdvanceByLending, SeekByLending}
 use Rattle.segment_postings.specs.Called.{calls_from, answer_length, entries_place, all_numbers, positions, model_numbers}
 
 -- ---- calls as numbers: kind * 2 ^ 32 + target
@@ -29,6 +30,18 @@ unfolding kind_of
 all_known [] = true
 all_known (n ∷ ns) = and (ltb (kind_of n) 4) (all_known ns)
 
+-- what a call means, made by value or on a lent cursor
+unfoldable pub meant : Coded → Call
+meant Advance = step
+meant (Seek target) = seek target
+meant AdvanceByLending = step
+meant (SeekByLending target) = seek target
+
+-- a number codes something exactly if its kind is known, and that means the same call
+pub record Decodes (n : ℕ) (r : Option Coded) : Type 0 where
+  pub known : is_some r ≡ ltb (kind_of n) 4
+  pub meaning : {c : Coded} → r ≡ Some c → meant c ≡ call_of n
+
 -- ---- what is answered
 
 -- places for the numbers of opening and of each call, asked even where opening would be refused, and every kind known
@@ -37,12 +50,12 @@ unfolding all_known
 taken ns out = and (leb (answer_length * (length ns + 1)) (length out)) (all_known ns)
 
 -- where opening was refused there is no cursor to call
-unfoldable pub unless_refused : Answer → List Answer → List Answer
-unless_refused (At doc freq unpacked entries) rest = rest
-unless_refused (Refused n) rest = []
+unfoldable pub unless_refused : Outcome Answer → List (Outcome Answer) → List (Outcome Answer)
+unless_refused (Ok a) rest = rest
+unless_refused (Err r) rest = []
 
 -- opening's answer, then that of each call
-unfoldable pub answered : List ℕ → Term → List ℕ → List Answer
+unfoldable pub answered : List ℕ → Term → List ℕ → List (Outcome Answer)
 unfolding opened unless_refused calls_from call_of
 answered bs t ns = let m : Moved = opened bs t in m.answer ∷ unless_refused m.answer (calls_from bs t m.cursor (map call_of ns))
 
@@ -76,4 +89,4 @@ pub record AsModel (bs : List ℕ) (t : Term) (ns out out' : List ℕ) (r : ℕ)
 pub record Runs (bs : List ℕ) (t : Term) (ns out out' : List ℕ) (r : ℕ) : Type 0 where
   pub answer : r ≡ how_many bs t ns out
   pub answers_after_is : out' ≡ answers_after bs t ns out
-  pub third_promise : taken ns out ≡ true → soundness t.mode t.count bs ≡ 0 → t.requested ≤ 2 → AsModel bs t ns out out' r
+  pub third_promise : taken ns out ≡ true → soundness t.mode t.count bs ≡ Ok tt → t.requested ≤ 2 → AsModel bs t ns out out' r

@@ -4,15 +4,13 @@
 -- Assumes nothing.
 use Rattle.std.specs.Prelude.{Bool, true, not, ◌&&◌ as and, List, [], ◌∷◌, map, ◌≡◌, ℕ, ◌+◌, ◌*◌, ◌/◌, ◌≤◌, get_or}
 use Rattle.format.specs.declared.Term.{Term}
-use Rattle.format.specs.Basics.{TERMINATED}
+use Rattle.format.specs.Basics.{TERMINATED, Outcome}
 use Rattle.format.specs.Reading.{reading, docs_of, freqs_of}
 use Rattle.format.specs.Model.{Call, State, member, here, answers, after_all}
 use Rattle.format.specs.Model as model
 use Rattle.segment_postings.specs.declared.Answer.{Answer}
 use Rattle.segment_postings.specs.declared.SegmentPostings.{SegmentPostings}
-use Rattle.segment_postings.specs.declared.Value.{Value}
 use Rattle.segment_postings.specs.Cursor.{answering, doc_at, freq_at}
-use Rattle.segment_postings.specs.Calls.{valued}
 use Rattle.segment_postings.specs.Called.{shown, answer_length, entries_place, value_numbers, all_numbers, positions, model_numbers, Counts}
 
 -- no number twice
@@ -30,7 +28,7 @@ abbrev pub state_after : List ℕ → Term → List Call → State
 state_after bs t cs = after_all (docs_of (reading t bs).blocks) model.opened cs
 
 -- `told` are opening's answer and those of the calls, `c` the cursor after them
-pub record Promised (bs : List ℕ) (t : Term) (cs : List Call) (told : List Answer) (c : SegmentPostings) : Type 0 where
+pub record Promised (bs : List ℕ) (t : Term) (cs : List Call) (told : List (Outcome Answer)) (c : SegmentPostings) : Type 0 where
   -- document, frequency and blocks unpacked of every answer are the model's, and so are its refusals
   pub model_answers_is : map shown told ≡ answers (docs_of (reading t bs).blocks) (freqs_of (reading t bs).blocks) cs
   -- .. with the entries read that lead to the block of the model's position, at most as many as full blocks
@@ -41,11 +39,11 @@ pub record Promised (bs : List ℕ) (t : Term) (cs : List Call) (told : List Ans
   pub model_state : Counts t c (state_after bs t cs)
   -- .. `doc` and `term_freq` give the document and the frequency at that position, at the end TERMINATED and 0, and `answer_at` gives
   -- both with the blocks unpacked
-  pub model_doc : {r : Value} → r ≡ valued (doc_at c bs t)
+  pub model_doc : {r : Outcome ℕ} → r ≡ doc_at c bs t
       → value_numbers r ≡ 0 ∷ get_or (docs_of (reading t bs).blocks) (state_after bs t cs).position TERMINATED ∷ []
-  pub model_freq : {r : Value} → r ≡ valued (freq_at c bs t)
+  pub model_freq : {r : Outcome ℕ} → r ≡ freq_at c bs t
       → value_numbers r ≡ 0 ∷ get_or (freqs_of (reading t bs).blocks) (state_after bs t cs).position 0 ∷ []
-  pub model_there : {r : Answer} → r ≡ answering t c
+  pub model_there : {r : Outcome Answer} → r ≡ answering t c
       → shown r ≡ here (docs_of (reading t bs).blocks) (freqs_of (reading t bs).blocks) (state_after bs t cs)
   -- the size of the model's set is the number of different blocks in which its positions lie: the set holds no block twice, and a block
   -- exactly where one of the positions, opening's included, lies in it

@@ -3,17 +3,15 @@
 -- `write_doc_in`, `close_term_in`). Each call gets the state and the two areas as the last one left them, and nobody else writes them. A
 -- document that is refused isn't taken, and the caller may go on with another.
 -- Assumes nothing.
-use Rattle.std.specs.Prelude.{Bool, true, false, ◌≡◌, List, [], ◌∷◌, ℕ, length}
+use Rattle.format.specs.Basics.{Outcome}
+use Rattle.std.specs.Prelude.{Bool, true, false, ◌≡◌, List, [], ◌∷◌, ℕ, length, Ok, Err}
+use Rattle.format.specs.declared.refusal.Refusal.{Refusal}
 use Rattle.format.specs.Accepted.{begin}
-use Rattle.serializer.specs.declared.Accepted.{Accepted}
-use Rattle.serializer.specs.declared.Accepted.TheVariants.{Yes, Refused}
 use Rattle.serializer.specs.declared.ClosedIn.{ClosedIn}
 use Rattle.serializer.specs.declared.ClosedTerm.{ClosedTerm}
 use Rattle.serializer.specs.declared.PostingsSerializer.{PostingsSerializer}
 use Rattle.serializer.specs.declared.Progress.{Progress}
-use Rattle.serializer.specs.declared.Progressed.TheVariants as progressed-as
 use Rattle.serializer.specs.declared.Step.{Step}
-use Rattle.serializer.specs.declared.Written.{Written}
 use Rattle.serializer.specs.Writer.{Areas, fresh}
 use Rattle.serializer.specs.Calls.{accepted_number, written_numbers, beginning, Took, Closed, state_of, progressed, acceptance, TookIn, ClosedFrom}
 
@@ -23,32 +21,32 @@ areas_of s skips postings = record { state = s; skips = skips; postings = postin
 -- ---- one call
 
 -- what beginning a term answered, and the state that there is then
-pub data Begins (mode : ℕ) (recording : Bool) : Accepted → PostingsSerializer → Type 0 where
+pub data Begins (mode : ℕ) (recording : Bool) : Outcome (Unit {0}) → PostingsSerializer → Type 0 where
   -- `new_term` hands back both
   handed_out : {r : Step} → r ≡ beginning mode recording → Begins mode recording r.answer r.state
   -- `new_term_in` hands back the state's numbers, which make it together with two arrays of 128 places, whatever these hold
-  numbered : (p : Progress) (docs freqs : List ℕ) → progressed-as.At p ≡ progressed (λ _. fresh mode recording) (begin mode recording)
-      → length docs ≡ 128 → length freqs ≡ 128 → Begins mode recording (acceptance (progressed-as.At p)) (state_of p docs freqs)
+  numbered : (p : Progress) (docs freqs : List ℕ) → Ok p ≡ progressed (λ _. fresh mode recording) (begin mode recording)
+      → length docs ≡ 128 → length freqs ≡ 128 → Begins mode recording (acceptance (Ok p)) (state_of p docs freqs)
   -- .. or refuses: it hands back no numbers, and the caller may go on with any state
-  unnumbered : {n : ℕ} {s : PostingsSerializer} → progressed-as.Refused n ≡ progressed (λ _. fresh mode recording) (begin mode recording)
-      → Begins mode recording (acceptance (progressed-as.Refused n)) s
+  unnumbered : {r : Refusal} {s : PostingsSerializer} → Err r ≡ progressed (λ _. fresh mode recording) (begin mode recording)
+      → Begins mode recording (acceptance (Err r)) s
 
 -- a state with its areas, what a document handed in was answered, and what the call left
-pub data Hands (d f : ℕ) : Areas → Accepted → Areas → Type 0 where
+pub data Hands (d f : ℕ) : Areas → Outcome (Unit {0}) → Areas → Type 0 where
   -- `write_doc` hands back a state
   handed_back : {a : Areas} {skips' postings' : List ℕ} {r : Step} → Took a.state d f a.skips a.postings skips' postings' r
       → Hands d f a r.answer (areas_of r.state skips' postings')
   -- `write_doc_in`, on two arrays that make the state together with its numbers, took it and hands back other numbers
   went_on : (p : Progress) (docs freqs : List ℕ) {skips postings docs' freqs' skips' postings' : List ℕ} {p' : Progress}
-      → TookIn (state_of p docs freqs) d f skips postings docs' freqs' skips' postings' (progressed-as.At p')
-      → Hands d f (areas_of (state_of p docs freqs) skips postings) (acceptance (progressed-as.At p')) (areas_of (state_of p' docs' freqs') skips' postings')
+      → TookIn (state_of p docs freqs) d f skips postings docs' freqs' skips' postings' (Ok p')
+      → Hands d f (areas_of (state_of p docs freqs) skips postings) (acceptance (Ok p')) (areas_of (state_of p' docs' freqs') skips' postings')
   -- .. or refused it: the caller still has its numbers, and the arrays as they are left
-  stayed : (p : Progress) (docs freqs : List ℕ) {skips postings docs' freqs' skips' postings' : List ℕ} {n : ℕ}
-      → TookIn (state_of p docs freqs) d f skips postings docs' freqs' skips' postings' (progressed-as.Refused n)
-      → Hands d f (areas_of (state_of p docs freqs) skips postings) (acceptance (progressed-as.Refused n)) (areas_of (state_of p docs' freqs') skips' postings')
+  stayed : (p : Progress) (docs freqs : List ℕ) {skips postings docs' freqs' skips' postings' : List ℕ} {r : Refusal}
+      → TookIn (state_of p docs freqs) d f skips postings docs' freqs' skips' postings' (Err r)
+      → Hands d f (areas_of (state_of p docs freqs) skips postings) (acceptance (Err r)) (areas_of (state_of p docs' freqs') skips' postings')
 
 -- a state with its areas and the output, what closing under an announced count answered, and the output and the state that it left
-pub data Closes (announced : ℕ) : Areas → List ℕ → Written → List ℕ → PostingsSerializer → Type 0 where
+pub data Closes (announced : ℕ) : Areas → List ℕ → Outcome ℕ → List ℕ → PostingsSerializer → Type 0 where
   -- `close_term` hands back a state
   closed_whole : {a : Areas} {output output' : List ℕ} {r : ClosedTerm} → Closed a.state announced a.skips a.postings output output' r
       → Closes announced a output r.answer output' r.state
@@ -60,14 +58,14 @@ pub data Closes (announced : ℕ) : Areas → List ℕ → Written → List ℕ 
 -- ---- a term
 
 -- a state with its areas, documents handed in one by one and their frequencies, the answers, and what the calls left
-pub data Handed : Areas → (ds fs : List ℕ) → List Accepted → Areas → Type 0 where
+pub data Handed : Areas → (ds fs : List ℕ) → List (Outcome (Unit {0})) → Areas → Type 0 where
   none : {a : Areas} → Handed a [] [] [] a
-  next : {a b c : Areas} {d f : ℕ} {ds fs : List ℕ} {answer : Accepted} {answers : List Accepted}
+  next : {a b c : Areas} {d f : ℕ} {ds fs : List ℕ} {answer : Outcome (Unit {0})} {answers : List (Outcome (Unit {0}))}
       → Hands d f a answer b → Handed b ds fs answers c → Handed a (d ∷ ds) (f ∷ fs) (answer ∷ answers) c
 
 -- a term begun, documents handed in, what the calls left; and what closing it under an announced count answers and leaves
 pub record TermWritten (mode : ℕ) (recording : Bool) (ds fs : List ℕ) (announced : ℕ) (skips postings output : List ℕ)
-    (begun : Accepted) (answers : List Accepted) (closed : Written) (output' : List ℕ) : Type 0 where
+    (begun : Outcome (Unit {0})) (answers : List (Outcome (Unit {0}))) (closed : Outcome ℕ) (output' : List ℕ) : Type 0 where
   pub first : PostingsSerializer
   pub begins : Begins mode recording begun first
   pub left : Areas
@@ -76,19 +74,19 @@ pub record TermWritten (mode : ℕ) (recording : Bool) (ds fs : List ℕ) (annou
   pub closes : Closes announced left output closed output' last
 
 -- the documents, or the frequencies, of the calls that were answered yes
-unfoldable pub taken : List Accepted → List ℕ → List ℕ
+unfoldable pub taken : List (Outcome (Unit {0})) → List ℕ → List ℕ
 taken [] ds = []
 taken (a ∷ answers) [] = []
-taken (Yes ∷ answers) (d ∷ ds) = d ∷ taken answers ds
-taken (Refused n ∷ answers) (d ∷ ds) = taken answers ds
+taken (Ok tt ∷ answers) (d ∷ ds) = d ∷ taken answers ds
+taken (Err r ∷ answers) (d ∷ ds) = taken answers ds
 
-unfoldable pub all_yes : List Accepted → Bool
+unfoldable pub all_yes : List (Outcome (Unit {0})) → Bool
 all_yes [] = true
-all_yes (Yes ∷ answers) = all_yes answers
-all_yes (Refused n ∷ answers) = false
+all_yes (Ok tt ∷ answers) = all_yes answers
+all_yes (Err r ∷ answers) = false
 
 -- every call says yes, and closing answers 0 and a number of bytes
-pub record AllAccepted (begun : Accepted) (answers : List Accepted) (closed : Written) : Type 0 where
+pub record AllAccepted (begun : Outcome (Unit {0})) (answers : List (Outcome (Unit {0}))) (closed : Outcome ℕ) : Type 0 where
   pub begins : accepted_number begun ≡ 0
   pub takes : all_yes answers ≡ true
   pub bytes : ℕ

@@ -5,39 +5,38 @@
 // Every call is a plain function. Numbers and records (the writer's state, the cursor, a `Term`) go by value, and what a call makes of them
 // comes back beside its answer; bytes are lent as slices and a block's values as arrays; `advance_mut` and `seek_mut` are lent the
 // caller's record. None demands anything of its caller, each returns on every input, and the `ensures` beside it says the outcome on
-// all inputs: the answer, and every byte of what is lent. A refusal answers the number of the first question of document 01 that is
-// answered no (`format` has a constant for each) and leaves everything lent as it was.
+// all inputs: the answer, and every byte of what is lent. What may be refused answers a `Result`, and `?` hands a refusal on: a `Refusal`
+// is the first question of document 01 that is answered no, with its number there by `number()`. It leaves everything lent as it was.
 //
 // WRITING. One term's list of documents and frequencies becomes an image. A state goes from call to call; a full block and its entry
-// go into two lent areas, and closing puts the image into the output.
+// go into two lent areas, and closing puts the image into the output and answers its length.
 //
 //     let begun = new_term(1, true);                                   // mode 1, frequencies recorded
 //     let step = write_doc(begun.state, 3, 1, &mut skips, &mut postings);
 //     let step = write_doc(step.state, 7, 2, &mut skips, &mut postings);
 //     let closed = close_term(step.state, 2, &skips, &postings, &mut output);
-//     let answer = closed.answer;
-//     match answer { Written::Bytes(n) => .., Written::Refused(why) => .. }
+//     let bytes = closed.answer?;
 //
 // The other calls say whether they took what they were handed, and a document that is refused isn't taken:
 //
-//     let accepted = step.answer;
-//     match accepted { Accepted::Yes => .., Accepted::Refused(why) => .. }
+//     match step.answer { Ok(()) => .., Err(refusal) => .. }
 //
 // Loops over many documents copy no state where they hold its arrays themselves, and its numbers beside them:
 //
 //     let mut docs = [0u32; 128];
 //     let mut freqs = [0u32; 128];
-//     match new_term_in(1, true) { Progressed::At(progress) => .., Progressed::Refused(why) => .. }
-//     match write_doc_in(progress, 3, 1, &mut docs, &mut freqs, &mut skips, &mut postings) { Progressed::At(progress) => .., Progressed::Refused(why) => .. }
+//     let progress = new_term_in(1, true)?;
+//     let progress = write_doc_in(progress, 3, 1, &mut docs, &mut freqs, &mut skips, &mut postings)?;
 //     let closed = close_term_in(progress, 1, &docs, &freqs, &skips, &postings, &mut output);
+//     let bytes = closed.answer?;
 //
 // Or the whole list at once, which refuses before it writes a byte; `ask_list` asks the same under an announced count and writes none:
 //
-//     match write_list(1, true, &ids, &freqs, &mut skips, &mut postings, &mut output) { Written::Bytes(n) => .., Written::Refused(why) => .. }
-//     match ask_list(1, true, &ids, &freqs, 3, &skips, &postings, &output) { Accepted::Yes => .., Accepted::Refused(why) => .. }
+//     let bytes = write_list(1, true, &ids, &freqs, &mut skips, &mut postings, &mut output)?;
+//     ask_list(1, true, &ids, &freqs, 3, &skips, &postings, &output)?;
 //
 // For n documents 8 * (n / 128) bytes of `skips`, 1008 * (n / 128) of `postings` and 10 * n of `output` are always enough; without
-// recorded frequencies 5 * (n / 128), 496 * (n / 128) and 5 * n. Where the list needs more than is lent, that is 15.
+// recorded frequencies 5 * (n / 128), 496 * (n / 128) and 5 * n. Where the list needs more than is lent, that is `Refusal::NoRoom` (15).
 //
 // READING. The image, with its recorded mode, its count and the requested mode in a `Term`, is lent to each call. The cursor goes by
 // value and comes back beside the answer:
@@ -46,16 +45,15 @@
 //     let opened = open(image, term);                                  // at the first document
 //     let moved = advance(opened.cursor, image, term);                 // the next
 //     let moved = seek(moved.cursor, image, term, 300);                // the first at or above 300, not before the present one
-//     let answer = moved.answer;
-//     match answer { Answer::At { doc, freq, unpacked, entries } => .., Answer::Refused(why) => .. }
-//     match doc(moved.cursor, image, term) { Value::Is(d) => .., Value::Refused(why) => .. }          // 2147483647 at the end
-//     match term_freq(moved.cursor, image, term) { Value::Is(f) => .., Value::Refused(why) => .. }    // 0 at the end
+//     let answer = moved.answer?;                                      // `doc`, `freq`, and so far `unpacked` blocks and `entries` read
+//     let d = doc(moved.cursor, image, term)?;                         // 2147483647 at the end
+//     let f = term_freq(moved.cursor, image, term)?;                   // 0 at the end
 //
 // or is lent, and changed in the caller's own record:
 //
 //     let mut cursor = opened.cursor;
-//     let answer = advance_mut(&mut cursor, image, term);              // an `Answer`
-//     let answer = seek_mut(&mut cursor, image, term, 300);
+//     let answer = advance_mut(&mut cursor, image, term)?;             // an `Answer` too
+//     let answer = seek_mut(&mut cursor, image, term, 300)?;
 //
 // or is taken and handed back by value, with the call made on a lent one in between:
 //
@@ -66,27 +64,28 @@
 //
 //     let mut docs = [TERMINATED; 128];
 //     let mut freqs = [1u32; 128];
-//     match open_in(image, term, &mut docs, &mut freqs) { Reached::At(held) => .., Reached::Refused(why) => .. }
-//     match advance_in(held, image, term, &mut docs, &mut freqs) { Reached::At(held) => .., Reached::Refused(why) => .. }
-//     match seek_in(held, image, term, 300, &mut docs, &mut freqs) { Reached::At(held) => .., Reached::Refused(why) => .. }
+//     let held = open_in(image, term, &mut docs, &mut freqs)?;
+//     let held = advance_in(held, image, term, &mut docs, &mut freqs)?;
+//     let held = seek_in(held, image, term, 300, &mut docs, &mut freqs)?;
 //
 // They answer where they came to, and `answer_at` what stands there, at the end 2147483647 and 0 as the other calls do:
 //
-//     match answer_at(held, term, &docs, &freqs) { Answer::At { doc, freq, unpacked, entries } => .., Answer::Refused(why) => .. }
+//     let answer = answer_at(held, term, &docs, &freqs)?;
 //
-// COUNTS. From a fresh cursor; a target above 2147483647 is 10. They ask their questions of what they read alone, and so answer of images
-// too that aren't sound: `rank` unpacks the first block and the one that it lands on, `total` the blocks up to the target.
+// COUNTS. From a fresh cursor; a target above 2147483647 is `Refusal::TargetTooLarge` (10). They ask their questions of what they read
+// alone, and so answer of images too that aren't sound: `rank` unpacks the first block and the one that it lands on, `total` the blocks up
+// to the target.
 //
-//     match rank(image, 1, 3, 300) { Value::Is(n) => .., Value::Refused(why) => .. }      // documents below 300
-//     match total(image, 1, 3, 300) { Value::Is(n) => .., Value::Refused(why) => .. }     // the sum of their frequencies
+//     let below = rank(image, 1, 3, 300)?;                             // documents below 300
+//     let sum = total(image, 1, 3, 300)?;                              // the sum of their frequencies
 //
 // A WHOLE LIST, into two slices of at least `term.count` places; the image is validated before a place is written:
 //
-//     match read(image, term, &mut all_docs, &mut all_freqs) { Value::Is(n) => .., Value::Refused(why) => .. }
+//     let n = read(image, term, &mut all_docs, &mut all_freqs)?;
 //
 // ADMISSION. An image that somebody else wrote is sound or not; its parts, as its skip length splits it, are parts of the caller's slice:
 //
-//     let why = validate(image, 1, 3);                                 // 0 where it is sound
+//     validate(image, 1, 3)?;                                          // `Ok(())` where it is sound
 //     let skips = skip_bytes(image, 3);                                // empty where the skip length is refused, or there is no full block
 //     let blocks = posting_bytes(image, 3);                            // the rest; empty where the skip length is refused
 //
@@ -101,16 +100,15 @@ mod calls;
 pub use crate::calls::{
     ANSWER_NUMBERS, DOC_PLACE, ENTRIES_PLACE, FREQ_PLACE, REFUSAL_PLACE, UNPACKED_PLACE, run_calls,
 };
-pub use format::{TERMINATED, Term};
+pub use format::{Refusal, TERMINATED, Term};
 pub use segment_postings::layout::{posting_bytes, skip_bytes};
 pub use segment_postings::validate::validate;
 pub use segment_postings::{
-    Answer, Held, Moved, Reached, SegmentPostings, Value, advance, advance_by_lending, advance_in,
-    advance_mut, answer_at, doc, open, open_in, rank, read, seek, seek_by_lending, seek_in,
-    seek_mut, term_freq, total,
+    Answer, Held, Moved, SegmentPostings, advance, advance_by_lending, advance_in, advance_mut,
+    answer_at, doc, open, open_in, rank, read, seek, seek_by_lending, seek_in, seek_mut, term_freq,
+    total,
 };
 pub use serializer::{
-    Accepted, ClosedIn, ClosedTerm, PostingsSerializer, Progress, Progressed, Step, Written,
-    ask_list, close_term, close_term_in, new_term, new_term_in, write_doc, write_doc_in,
-    write_list,
+    ClosedIn, ClosedTerm, PostingsSerializer, Progress, Step, ask_list, close_term, close_term_in,
+    new_term, new_term_in, write_doc, write_doc_in, write_list,
 };

@@ -11,25 +11,25 @@ pub returns-in_default : goal.returns-in_default
 returns-in_default c = none-served _ _ _ (seeks_unopened _ _ _ (reached_nowhere c.open_in.ensures c.in_default.is))
 
 pub loop-i-init : goal.loop-i-init
-loop-i-init c = serving_first _ _ _ _ _ (reached-at c.open_in.ensures c.in-At.is)
+loop-i-init c = serving_first _ _ _ _ _ (reached-at c.open_in.ensures c.in-Ok.is)
 
 pub put_answer-requires : goal.put_answer-requires
 put_answer-requires c =
-    let near = seeking_near _ _ _ _ (reached-at c.seek_in.ensures c.in-At-seek_in.is) in
+    let near = seeking_near _ _ _ _ (reached-at c.seek_in.ensures c.in-Ok-seek_in.is) in
     record {
       place_below = near.0;
       docs_room_there = omega arith;
       freqs_room_there = omega arith;
     }
 
-pub returns-in-Refused : goal.returns-in-Refused
-returns-in-Refused c =
-    serving_refused _ _ _ c.loop-i.invariant c.loop-i-test.true (reached_nowhere c.seek_in.ensures c.in-Refused.is)
+pub returns-in_default-seek_in : goal.returns-in_default-seek_in
+returns-in_default-seek_in c =
+    serving_refused _ _ _ c.loop-i.invariant c.loop-i-test.true (reached_nowhere c.seek_in.ensures c.in_default-seek_in.is)
 
 pub loop-i-preserved : goal.loop-i-preserved
 loop-i-preserved c =
     serving_on _ _ _ c.loop-i.invariant c.loop-i-test.true c.requires.0 c.requires.1
-    (reached-at c.seek_in.ensures c.in-At-seek_in.is) c.put_answer.ensures
+    (reached-at c.seek_in.ensures c.in-Ok-seek_in.is) c.put_answer.ensures
 
 pub returns : goal.returns
 returns c = serving_all _ _ _ c.loop-i.invariant (omega arith)

@@ -1,8 +1,12 @@
 -- The laws of coded calls and of their answers, each opened by one turn: what a call's number says, an answer's length, and a
 -- list of calls from a place on, whose first answer is that of its call and the rest those on the cursor that it left.
 -- Assumes nothing.
-use mathlib.Core.Path.{◌≡◌, refl, sym, ap, ◌∙◌}
-use mathlib.Core.Bool.{true, false, ◌&&◌ as and}
+use Rattle.std.specs.Prelude.{Ok, Err, Option, None, Some}
+use Rattle.std.specs.List.{list_all}
+use Rattle.std.proofs.lemmas.List.Recursion.{and_at}
+use Rattle.std.proofs.lemmas.Option.{none-some}
+use mathlib.Core.Path.{◌≡◌, refl, sym, ap, subst, ◌∙◌}
+use mathlib.Core.Bool.{Bool, true, ◌&&◌ as and}
 use mathlib.Core.List.{List, [], ◌∷◌, ◌++◌, map}
 use Prim.Native.Nat.{ℕ, suc, ◌+◌, ◌*◌, ◌/◌, ◌%◌, ◌-◌, ◌≤◌, ◌<◌}
 use native.Mathlib.Numerals.{add-one}
@@ -12,18 +16,20 @@ use lib.ListN.{length, drop, get_or, length-append, length-map, length-drop}
 use lib.Seq.{drop-cons, drop-length}
 use borrow.Author.Tests.{eq-eqb, ne_eqb, lt-ltb, le-ltb}
 use Rattle.format.specs.declared.Term.{Term}
-use Rattle.format.specs.Basics.{choose, put_at}
+use Rattle.format.specs.Basics.{choose, put_at, Outcome}
 use Rattle.format.specs.Model.{Call, step, seek}
 use Rattle.format.proofs.Area.{put_at-nil, put_at-append}
 use Rattle.segment_postings.specs.declared.Answer.{Answer}
-use Rattle.segment_postings.specs.declared.Answer.TheVariants.{At, Refused}
 use Rattle.segment_postings.specs.declared.Moved.{Moved}
 use Rattle.segment_postings.specs.declared.SegmentPostings.{SegmentPostings}
-use Rattle.segment_postings.specs.Cursor.{advanced, sought}
 use Rattle.segment_postings.specs.Called.{called, calls_from, answer_length, numbers, all_numbers}
-use Rattle.postings.specs.RunCalls.{kind_of, target_of, call_of, all_known}
+use Rattle.postings.specs.RunCalls.{kind_of, target_of, call_of, all_known, meant, Decodes}
+use Rattle.postings.specs.declared.calls.Coded.{Coded}
 
 -- ---- a call's number
+
+means-same : {c d : Coded} {call : Call} → ◌≡◌ {A = Option Coded} (Some c) (Some d) → meant c ≡ call → meant d ≡ call
+means-same {c} {d} {call} e means = let same : c ≡ d = cc in subst (λ (x : Coded). meant x ≡ call) same means
 
 module _ (n : ℕ) where
   pub step-called : n / 4294967296 ≡ 0 → call_of n ≡ step
@@ -38,46 +44,37 @@ module _ (n : ℕ) where
   unfolding call_of choose kind_of target_of
   seek-called z w = rw (ne_eqb (n / 4294967296) 0 z, ne_eqb (n / 4294967296) 2 w)
 
-  module _ (c : SegmentPostings) (bs : List ℕ) (t : Term) where
-    pub makes-step : n / 4294967296 ≡ 0 → advanced c bs t ≡ called c bs t (call_of n)
-    unfolding called
-    makes-step e = rw (step-called e)
+  pub decodes : (c : Coded) → n / 4294967296 < 4 → meant c ≡ call_of n → Decodes n (Some c)
+  unfolding kind_of
+  decodes c below means = record { known = sym (lt-ltb (n / 4294967296) 4 below); meaning = λ e. means-same e means }
 
-    pub makes-lent-step : n / 4294967296 ≡ 2 → advanced c bs t ≡ called c bs t (call_of n)
-    unfolding called
-    makes-lent-step e = rw (lent-step-called e)
-
-    pub makes-seek : (n / 4294967296 ≡ 0 → ⊥) → (n / 4294967296 ≡ 2 → ⊥) → sought c bs t (n % 4294967296) ≡ called c bs t (call_of n)
-    unfolding called
-    makes-seek z w = rw (seek-called z w)
+  pub decodes-none : 4 ≤ n / 4294967296 → Decodes n None
+  unfolding kind_of
+  decodes-none above = record { known = sym (le-ltb (n / 4294967296) 4 above); meaning = λ e. absurd (none-some _ e) }
 
 -- ---- kinds, one by one
 
-module _ (ns : List ℕ) (i : ℕ) (below : i < length ns) where
-  known_turn : all_known (drop i ns) ≡ and (ltb (kind_of (get_or ns i 0)) 4) (all_known (drop (i + 1) ns))
-  unfolding all_known
-  known_turn = rw (drop-cons ns i 0 below, add-one) refl
+abbrev pub known_of : ℕ → Bool
+known_of n = ltb (kind_of n) 4
 
-  pub known_on : get_or ns i 0 / 4294967296 < 4 → all_known (drop i ns) ≡ all_known (drop (i + 1) ns)
-  unfolding kind_of
-  known_on h = known_turn ∙ rw (lt-ltb (get_or ns i 0 / 4294967296) 4 h)
-
-  pub known_not : 4 ≤ get_or ns i 0 / 4294967296 → all_known (drop i ns) ≡ false
-  unfolding kind_of
-  known_not h = known_turn ∙ rw (le-ltb (get_or ns i 0 / 4294967296) 4 h)
-
-pub known_none : (ns : List ℕ) → all_known (drop (length ns) ns) ≡ true
+pub each-known : (ns : List ℕ) → list_all known_of ns ≡ all_known ns
 unfolding all_known
-known_none ns = rw drop-length
+each-known [] = refl
+each-known (n ∷ ns) = ap (λ b. and (known_of n) b) (each-known ns)
+
+-- of known kinds each is
+pub known-at : (ns : List ℕ) (i : ℕ) → i < length ns → all_known ns ≡ true → known_of (get_or ns i 0) ≡ true
+unfolding all_known
+known-at ns i below all = and_at all_known known_of refl (λ _ _. refl) ns i 0 below all
 
 -- ---- a list of calls from a place on
 
-pub numbers-length : (a : Answer) → length (numbers a) ≡ answer_length
+pub numbers-length : (a : Outcome Answer) → length (numbers a) ≡ answer_length
 unfolding numbers
-numbers-length (At doc freq unpacked entries) = refl
-numbers-length (Refused n) = refl
+numbers-length (Ok a) = refl
+numbers-length (Err r) = refl
 
-pub all-numbers : (answers : List Answer) → length (all_numbers answers) ≡ answer_length * length answers
+pub all-numbers : (answers : List (Outcome Answer)) → length (all_numbers answers) ≡ answer_length * length answers
 unfolding all_numbers
 all-numbers [] = refl
 all-numbers (a ∷ answers) = rw length-append (omega (arith, numbers-length a, all-numbers answers))

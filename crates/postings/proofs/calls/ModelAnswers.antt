@@ -2,6 +2,8 @@
 -- every call is made; each answers what the model answers, and the entries read lead to the block of the model's position, so that
 -- they are at most the full blocks.
 -- Assumes nothing.
+use Rattle.std.specs.Prelude.{Ok}
+use Rattle.format.specs.Basics.{Outcome}
 use mathlib.Core.Path.{◌≡◌, ap}
 use mathlib.Core.List.{List, [], ◌∷◌, map}
 use Prim.Native.Nat.{ℕ, zero, suc, ◌+◌, ◌*◌, ◌/◌, ◌≤◌}
@@ -36,28 +38,28 @@ unfolding model_numbers
 entry-most n [] ps i = omega arith
 entry-most n (a ∷ told) [] i = omega arith
 entry-most n (a ∷ told) (p ∷ ps) zero =
-    let first : Answer = with_entries a (entries_read n p) in
+    let first : Outcome Answer = with_entries a (entries_read n p) in
     rw (get_or-append (numbers first) (model_numbers n told ps) 0 entries_place (omega (arith, numbers-length first)))
     (entry_of a (entries_read n p) (n / 128) (entries_most n p))
 entry-most n (a ∷ told) (p ∷ ps) (suc i) =
-    let first : Answer = with_entries a (entries_read n p) in
+    let first : Outcome Answer = with_entries a (entries_read n p) in
     let later : ℕ = answer_length * i + entries_place in
     let behind : answer_length * suc i + entries_place ≡ length (numbers first) + later = omega (arith, numbers-length first) in
     rw (behind, get_or-append-add (numbers first) (model_numbers n told ps) later 0) (entry-most n told ps i)
 
 -- ---- where opening isn't refused
 
-module _ (bs : List ℕ) (t : Term) (ns : List ℕ) (sound : soundness t.mode t.count bs ≡ 0) (known : t.requested ≤ 2) where
-  readable : (reading t bs).refusal ≡ 0
+module _ (bs : List ℕ) (t : Term) (ns : List ℕ) (sound : soundness t.mode t.count bs ≡ Ok tt) (known : t.requested ≤ 2) where
+  readable : (reading t bs).verdict ≡ Ok tt
   readable = sound_requested t.mode t.requested t.count bs known sound
 
-  not-refused : (rest : List Answer) → unless_refused (opened bs t).answer rest ≡ rest
+  not-refused : (rest : List (Outcome Answer)) → unless_refused (opened bs t).answer rest ≡ rest
   unfolding unless_refused with_entries here
   not-refused rest = rw ((simulation t bs).opens readable).answer_is
 
   all-called : answered bs t ns ≡ calls bs t (map call_of ns)
   unfolding answered calls
-  all-called = ap (λ (l : List Answer). (opened bs t).answer ∷ l) (not-refused _)
+  all-called = ap (λ (l : List (Outcome Answer)). (opened bs t).answer ∷ l) (not-refused _)
 
   pub all_answered : length (answered bs t ns) ≡ length ns + 1
   unfolding calls

@@ -1,6 +1,7 @@
 -- The four ways out of `run_calls`: too few places, an unknown kind, a refused opening, and all calls made. In the first two nothing is
 -- written; a refused opening is the only answer, and none happens on an admitted image.
 -- Assumes nothing.
+use Rattle.std.specs.Prelude.{Ok, Err}
 use mathlib.Core.Path.{◌≡◌, sym, ap, ◌∙◌}
 use mathlib.Core.Bool.{true, false, and-false}
 use mathlib.Core.List.{List, [], ◌∷◌, ◌++◌, append-nil, map}
@@ -8,10 +9,11 @@ use Prim.Native.Nat.{ℕ, ◌+◌, ◌*◌, ◌/◌, ◌≤◌, ◌<◌}
 use native.Mathlib.Omega.{arith}
 use borrow.Author.Tests.{le-leb, lt-leb}
 use lib.ListN.{length, drop, get_or, length-append, length-map, get_or-append}
+use Rattle.format.specs.declared.refusal.Refusal.{Refusal}
 use Rattle.format.specs.declared.Term.{Term}
 use Rattle.format.specs.Basics.{choose, fits_at, put_at}
 use Rattle.format.proofs.Area.{put_at-append}
-use Rattle.segment_postings.specs.declared.Answer.TheVariants.{At, Refused}
+use Rattle.segment_postings.specs.declared.Answer.{Answer}
 use Rattle.segment_postings.specs.declared.Moved.{Moved}
 use Rattle.segment_postings.specs.Cursor.{opened}
 use Rattle.segment_postings.specs.Called.{calls_from, answer_length, entries_place, numbers, all_numbers}
@@ -78,21 +80,21 @@ module _ (bs : List ℕ) (t : Term) (ns out : List ℕ) where
 
     module _ (m : Moved) (opens : m ≡ opened bs t) where
       -- a refused opening is all that is answered
-      alone : {n : ℕ} → m.answer ≡ Refused n → answered bs t ns ≡ m.answer ∷ []
+      alone : {r : Refusal} → m.answer ≡ Err r → answered bs t ns ≡ m.answer ∷ []
       unfolding answered unless_refused
       alone e = rw (← opens, e)
 
       -- .. and else every call is
-      followed : {doc freq unpacked entries : ℕ} → m.answer ≡ At doc freq unpacked entries
+      followed : {first : Answer} → m.answer ≡ Ok first
           → answered bs t ns ≡ m.answer ∷ calls_from bs t m.cursor (map call_of ns)
       unfolding answered unless_refused
       followed e = rw (← opens, e)
 
-      pub run-refused : {n : ℕ} → m.answer ≡ Refused n → {out' : List ℕ} → out' ≡ put_at 0 (numbers m.answer) out → Runs bs t ns out out' 1
+      pub run-refused : {r : Refusal} → m.answer ≡ Err r → {out' : List ℕ} → out' ≡ put_at 0 (numbers m.answer) out → Runs bs t ns out out' 1
       unfolding all_numbers
       run-refused e {out'} written = run-answered 1 out' (rw (alone e)) (rw (alone e, append-nil) written)
 
-      pub run-all : {doc freq unpacked entries : ℕ} → m.answer ≡ At doc freq unpacked entries
+      pub run-all : {first : Answer} → m.answer ≡ Ok first
           → {out₁ out' : List ℕ} → out₁ ≡ put_at 0 (numbers m.answer) out
           → out' ≡ put_at answer_length (all_numbers (calls_from bs t m.cursor (map call_of ns))) out₁
           → Runs bs t ns out out' (length ns + 1)

@@ -1,19 +1,11 @@
--- `postings::calls::kinds_known` meets its contract. The loop's invariant: all kinds are known where those still to come are.
+-- `postings::calls::kinds_known` meets its contract: a kind is known where its number codes something.
 -- Assumes nothing.
-use Rattle.std.proofs.Common.{◌≡◌, sym, ◌∙◌, length, arith}
-use Rattle.postings.proofs.calls.CodedCalls.{known_on, known_not, known_none}
+use Rattle.std.proofs.Common.{rules, tests, ◌∙◌}
+use Rattle.std.proofs.lemmas.Iterator.{YieldsList-from_slice}
+use Rattle.std.proofs.lemmas.Iterator.Search.{all_from_yields_List}
+use Rattle.postings.proofs.calls.CodedCalls.{known_of, each-known}
 use Rattle.postings.proofs.calls.kinds_known.Goals as goal
-
-pub returns-then-calls-i-ge4 : goal.returns-then-calls-i-ge4
-returns-then-calls-i-ge4 c = sym (c.loop-i.invariant.to_come ∙ known_not _ c.loop-i.i (omega arith) c.if-calls-i-ge4.true)
-
-pub loop-i-preserved : goal.loop-i-preserved
-loop-i-preserved c = record {
-  within = omega arith;
-  to_come = c.loop-i.invariant.to_come ∙ known_on _ c.loop-i.i (omega arith) c.if-calls-i-ge4.false;
-}
 
 pub returns : goal.returns
 returns c =
-    let all : c.loop-i.i ≡ length c.args.calls.now = omega arith in
-    sym (c.loop-i.invariant.to_come ∙ rw all (known_none c.args.calls.now))
+    all_from_yields_List known_of _ _ _ c.all.ensures.ran (YieldsList-from_slice _ cc) (λ x b q k. search (rules, tests)) ∙ each-known _

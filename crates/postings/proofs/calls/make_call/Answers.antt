@@ -1,17 +1,21 @@
 -- `postings::calls::make_call` meets its contract: each function that may be called meets the definition of the same call.
 -- Assumes nothing.
-use Rattle.std.proofs.Common.{◌∙◌}
-use Rattle.postings.proofs.calls.CodedCalls.{makes-step, makes-lent-step, makes-seek}
+use Rattle.segment_postings.specs.Called.{called}
+use Rattle.postings.specs.RunCalls.{meant}
 use Rattle.postings.proofs.calls.make_call.Goals as goal
 
-pub returns-then-kind-eq0 : goal.returns-then-kind-eq0
-returns-then-kind-eq0 c = c.advance.ensures ∙ makes-step _ _ _ _ c.if-kind-eq0.true
+pub returns-in-Advance : goal.returns-in-Advance
+unfolding called meant
+returns-in-Advance c = rw c.in-Advance.is c.advance.ensures
 
-pub returns-then-kind-eq2 : goal.returns-then-kind-eq2
-returns-then-kind-eq2 c = c.advance_by_lending.ensures ∙ makes-lent-step _ _ _ _ c.if-kind-eq2.true
+pub returns-in-Seek : goal.returns-in-Seek
+unfolding called meant
+returns-in-Seek c = rw c.in-Seek.is c.seek.ensures
 
-pub returns-then-kind-eq1 : goal.returns-then-kind-eq1
-returns-then-kind-eq1 c = c.seek.ensures ∙ makes-seek _ _ _ _ c.if-kind-eq0.false c.if-kind-eq2.false
+pub returns-in-AdvanceByLending : goal.returns-in-AdvanceByLending
+unfolding called meant
+returns-in-AdvanceByLending c = rw c.in-AdvanceByLending.is c.advance_by_lending.ensures
 
-pub returns : goal.returns
-returns c = c.seek_by_lending.ensures ∙ makes-seek _ _ _ _ c.if-kind-eq0.false c.if-kind-eq2.false
+pub returns-in-SeekByLending : goal.returns-in-SeekByLending
+unfolding called meant
+returns-in-SeekByLending c = rw c.in-SeekByLending.is c.seek_by_lending.ensures

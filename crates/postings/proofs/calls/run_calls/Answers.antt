@@ -17,4 +17,4 @@ returns-in_default c =
 pub returns : goal.returns
 returns c =
     run-all _ _ _ _ c.if-answers-calls.false (sym c.if-not-kinds_known.ensures)
-    _ c.open-opened.ensures c.in-At.is c.put_answer.ensures c.run_from.ensures
+    _ c.open-opened.ensures c.in-Ok.is c.put_answer.ensures c.run_from.ensures

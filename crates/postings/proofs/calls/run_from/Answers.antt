@@ -3,8 +3,12 @@
 -- Assumes nothing.
 use Rattle.std.proofs.Common.{◌≡◌, sym, ap, ◌∙◌, length, arith}
 use Rattle.format.proofs.Area.{length-put_at}
-use Rattle.postings.proofs.calls.CodedCalls.{written_on, written_all}
+use Rattle.segment_postings.specs.Called.{called}
+use Rattle.postings.proofs.calls.CodedCalls.{known-at, written_on, written_all}
 use Rattle.postings.proofs.calls.run_from.Goals as goal
+
+pub unwrap-call-requires : goal.unwrap-call-requires
+unwrap-call-requires c = c.decode.ensures.known ∙ known-at c.args.calls.now c.loop-i.i c.loop-i-test.true c.requires.0
 
 pub loop-i-preserved : goal.loop-i-preserved
 loop-i-preserved c =
@@ -13,8 +17,8 @@ loop-i-preserved c =
     record {
       within = omega arith;
       same_length = ap length c.put_answer.ensures ∙ length-put_at _ _ _ ∙ inv.same_length;
-      to_come = written_on _ _ _ l.i l.moved.cursor l.answers (omega arith) (omega (arith, c.requires, inv.same_length)) inv.to_come
-          c.make_call-moved.ensures c.put_answer.ensures;
+      to_come = written_on _ _ _ l.i l.moved.cursor l.answers (omega arith) (omega (arith, c.requires.1, inv.same_length)) inv.to_come
+          (c.make_call-moved.ensures ∙ ap (called _ _ _) (c.decode.ensures.meaning c.unwrap-call.ensures)) c.put_answer.ensures;
     }
 
 pub returns : goal.returns
