@@ -13,12 +13,9 @@ use crate::writing::{write_each, write_on_arrays, write_whole};
 use postings::Term;
 use std::io;
 
-// The first n bytes. That a part lies within its slice is a fact that must be proved: the test is what shows it.
+// The first n bytes. That a part lies within its slice is a fact that must be proved: the smaller of the two lengths does.
 fn front(output: &[u8], n: usize) -> &[u8] {
-    if output.len() < n {
-        return output;
-    }
-    &output[..n]
+    &output[..n.min(output.len())]
 }
 
 // The image is at the front of the output.

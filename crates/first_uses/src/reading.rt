@@ -1,8 +1,8 @@
 // An image read.
 
-use crate::telling::{tell, tell_answer, tell_value};
+use crate::telling::{tell, tell_answer, tell_refusal, tell_value};
 use postings::{
-    ANSWER_NUMBERS, Held, Reached, TERMINATED, Term, advance, advance_by_lending, advance_in,
+    ANSWER_NUMBERS, Held, Refusal, TERMINATED, Term, advance, advance_by_lending, advance_in,
     answer_at, doc, open, open_in, posting_bytes, rank, read, run_calls, seek, seek_by_lending,
     seek_in, skip_bytes, term_freq, total, validate,
 };
@@ -11,14 +11,11 @@ use std::io;
 // A cursor by value: the first document, the next, the first at or above 300, and what stands there.
 pub(crate) fn walk(rt: &impl Print, image: &[u8], term: Term) -> io::Result<()> {
     let opened = open(image, term);
-    let answer = opened.answer;
-    tell_answer(rt, answer)?;
+    tell_answer(rt, opened.answer)?;
     let moved = advance(opened.cursor, image, term);
-    let answer = moved.answer;
-    tell_answer(rt, answer)?;
+    tell_answer(rt, moved.answer)?;
     let moved = seek(moved.cursor, image, term, 300);
-    let answer = moved.answer;
-    tell_answer(rt, answer)?;
+    tell_answer(rt, moved.answer)?;
     let found = doc(moved.cursor, image, term);
     tell_value(rt, "doc", found)?;
     let found = term_freq(moved.cursor, image, term);
@@ -29,11 +26,9 @@ pub(crate) fn walk(rt: &impl Print, image: &[u8], term: Term) -> io::Result<()> 
 pub(crate) fn walk_lent(rt: &impl Print, image: &[u8], term: Term) -> io::Result<()> {
     let opened = open(image, term);
     let moved = advance_by_lending(opened.cursor, image, term);
-    let answer = moved.answer;
-    tell_answer(rt, answer)?;
+    tell_answer(rt, moved.answer)?;
     let moved = seek_by_lending(moved.cursor, image, term, 300);
-    let answer = moved.answer;
-    tell_answer(rt, answer)
+    tell_answer(rt, moved.answer)
 }
 
 // Steps and seeks on the caller's own two arrays, from the first document on.
@@ -45,13 +40,13 @@ fn walk_on(
     docs: &mut [u32; 128],
     freqs: &mut [u32; 128],
 ) -> io::Result<()> {
-    let Reached::At(held) = advance_in(first, image, term, docs, freqs) else {
+    let Ok(held) = advance_in(first, image, term, docs, freqs) else {
         return Ok(());
     };
     tell_answer(rt, answer_at(held, term, docs, freqs))?;
     match seek_in(held, image, term, 300, docs, freqs) {
-        Reached::At(held) => tell_answer(rt, answer_at(held, term, docs, freqs)),
-        Reached::Refused(why) => tell(rt, "refused", why as u64),
+        Ok(held) => tell_answer(rt, answer_at(held, term, docs, freqs)),
+        Err(refusal) => tell_refusal(rt, refusal),
     }
 }
 
@@ -60,8 +55,16 @@ pub(crate) fn walk_arrays(rt: &impl Print, image: &[u8], term: Term) -> io::Resu
     let mut docs = [TERMINATED; 128];
     let mut freqs = [1; 128];
     match open_in(image, term, &mut docs, &mut freqs) {
-        Reached::At(held) => walk_on(rt, held, image, term, &mut docs, &mut freqs),
-        Reached::Refused(why) => tell(rt, "refused", why as u64),
+        Ok(held) => walk_on(rt, held, image, term, &mut docs, &mut freqs),
+        Err(refusal) => tell_refusal(rt, refusal),
+    }
+}
+
+// 0 where an image is sound, else the refusal's number.
+fn verdict_number(verdict: Result<(), Refusal>) -> u64 {
+    match verdict {
+        Ok(()) => 0,
+        Err(refusal) => refusal.number() as u64,
     }
 }
 
@@ -69,7 +72,7 @@ pub(crate) fn walk_arrays(rt: &impl Print, image: &[u8], term: Term) -> io::Resu
 pub(crate) fn ask(rt: &impl Print, image: &[u8]) -> io::Result<()> {
     tell_value(rt, "rank", rank(image, 1, 3, 300))?;
     tell_value(rt, "total", total(image, 1, 3, 300))?;
-    tell(rt, "validate", validate(image, 1, 3) as u64)?;
+    tell(rt, "validate", verdict_number(validate(image, 1, 3)))?;
     let skips = skip_bytes(image, 3);
     tell(rt, "skip_bytes", skips.len() as u64)?;
     let blocks = posting_bytes(image, 3);

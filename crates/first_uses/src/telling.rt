@@ -1,6 +1,6 @@
 // What is printed of an answer.
 
-use postings::{Answer, Value};
+use postings::{Answer, Refusal};
 use std::io;
 
 // A word and a number on a line.
@@ -8,28 +8,32 @@ pub(crate) fn tell(rt: &impl Print, word: &str, number: u64) -> io::Result<()> {
     println!(rt; "{word} {number}")
 }
 
+// A refusal's number.
+pub(crate) fn tell_refusal(rt: &impl Print, refusal: Refusal) -> io::Result<()> {
+    tell(rt, "refused", refusal.number() as u64)
+}
+
 // What a call on a cursor answers.
-pub(crate) fn tell_answer(rt: &impl Print, answer: Answer) -> io::Result<()> {
+pub(crate) fn tell_answer(rt: &impl Print, answer: Result<Answer, Refusal>) -> io::Result<()> {
     match answer {
-        Answer::At {
-            doc,
-            freq,
-            unpacked,
-            entries,
-        } => {
-            tell(rt, "document", doc as u64)?;
-            tell(rt, "frequency", freq as u64)?;
-            tell(rt, "unpacked", unpacked as u64)?;
-            tell(rt, "entries", entries as u64)
+        Ok(at) => {
+            tell(rt, "document", at.doc as u64)?;
+            tell(rt, "frequency", at.freq as u64)?;
+            tell(rt, "unpacked", at.unpacked as u64)?;
+            tell(rt, "entries", at.entries as u64)
         }
-        Answer::Refused(why) => tell(rt, "refused", why as u64),
+        Err(refusal) => tell_refusal(rt, refusal),
     }
 }
 
 // A number that was asked for.
-pub(crate) fn tell_value(rt: &impl Print, word: &str, value: Value) -> io::Result<()> {
+pub(crate) fn tell_value(
+    rt: &impl Print,
+    word: &str,
+    value: Result<u64, Refusal>,
+) -> io::Result<()> {
     match value {
-        Value::Is(n) => tell(rt, word, n),
-        Value::Refused(why) => tell(rt, "refused", why as u64),
+        Ok(n) => tell(rt, word, n),
+        Err(refusal) => tell_refusal(rt, refusal),
     }
 }

@@ -1,9 +1,9 @@
 // A list written.
 
-use crate::telling::tell;
+use crate::telling::{tell, tell_refusal};
 use postings::{
-    Accepted, Progress, Progressed, Written, ask_list, close_term, close_term_in, new_term,
-    new_term_in, write_doc, write_doc_in, write_list,
+    Progress, Refusal, ask_list, close_term, close_term_in, new_term, new_term_in, write_doc,
+    write_doc_in, write_list,
 };
 use std::io;
 
@@ -17,19 +17,19 @@ pub(crate) fn write_whole(rt: &impl Print, output: &mut [u8]) -> io::Result<usiz
     let accepted = ask_list(1, true, &ids, &freqs, 3, &skips, &postings, output);
     tell_accepted(rt, accepted)?;
     match write_list(1, true, &ids, &freqs, &mut skips, &mut postings, output) {
-        Written::Bytes(n) => Ok(n),
-        Written::Refused(why) => {
-            tell(rt, "refused", why as u64)?;
+        Ok(n) => Ok(n),
+        Err(refusal) => {
+            tell_refusal(rt, refusal)?;
             Ok(0)
         }
     }
 }
 
 // Whether a call took what it was handed, or would.
-fn tell_accepted(rt: &impl Print, accepted: Accepted) -> io::Result<()> {
+fn tell_accepted(rt: &impl Print, accepted: Result<(), Refusal>) -> io::Result<()> {
     match accepted {
-        Accepted::Yes => tell(rt, "taken", 1),
-        Accepted::Refused(why) => tell(rt, "refused", why as u64),
+        Ok(()) => tell(rt, "taken", 1),
+        Err(refusal) => tell_refusal(rt, refusal),
     }
 }
 
@@ -40,23 +40,20 @@ pub(crate) fn write_each(rt: &impl Print, output: &mut [u8]) -> io::Result<()> {
     let mut postings = [0u8; 1008];
     let begun = new_term(1, true);
     let step = write_doc(begun.state, 3, 1, &mut skips, &mut postings);
-    let accepted = step.answer;
-    tell_accepted(rt, accepted)?;
+    tell_accepted(rt, step.answer)?;
     let step = write_doc(step.state, 3, 1, &mut skips, &mut postings);
-    let accepted = step.answer;
-    tell_accepted(rt, accepted)?;
+    tell_accepted(rt, step.answer)?;
     let step = write_doc(step.state, 7, 2, &mut skips, &mut postings);
     let step = write_doc(step.state, 300, 130, &mut skips, &mut postings);
     let closed = close_term(step.state, 3, &skips, &postings, output);
-    let answer = closed.answer;
-    tell_written(rt, answer)
+    tell_written(rt, closed.answer)
 }
 
 // An image's length, or the refusal's number.
-fn tell_written(rt: &impl Print, answer: Written) -> io::Result<()> {
+fn tell_written(rt: &impl Print, answer: Result<usize, Refusal>) -> io::Result<()> {
     match answer {
-        Written::Bytes(n) => tell(rt, "bytes", n as u64),
-        Written::Refused(why) => tell(rt, "refused", why as u64),
+        Ok(n) => tell(rt, "bytes", n as u64),
+        Err(refusal) => tell_refusal(rt, refusal),
     }
 }
 
@@ -72,12 +69,12 @@ fn write_one(
     postings: &mut [u8],
 ) -> io::Result<Progress> {
     match write_doc_in(progress, doc, freq, docs, freqs, skips, postings) {
-        Progressed::At(next) => {
+        Ok(next) => {
             tell(rt, "taken", 1)?;
             Ok(next)
         }
-        Progressed::Refused(why) => {
-            tell(rt, "refused", why as u64)?;
+        Err(refusal) => {
+            tell_refusal(rt, refusal)?;
             Ok(progress)
         }
     }
@@ -89,40 +86,21 @@ pub(crate) fn write_on_arrays(rt: &impl Print, output: &mut [u8]) -> io::Result<
     let mut freqs = [0u32; 128];
     let mut skips = [0u8; 8];
     let mut postings = [0u8; 1008];
-    let Progressed::At(begun) = new_term_in(1, true) else {
+    let Ok(mut progress) = new_term_in(1, true) else {
         return Ok(());
     };
-    let first = write_one(
-        rt,
-        begun,
-        3,
-        1,
-        &mut docs,
-        &mut freqs,
-        &mut skips,
-        &mut postings,
-    )?;
-    let second = write_one(
-        rt,
-        first,
-        7,
-        2,
-        &mut docs,
-        &mut freqs,
-        &mut skips,
-        &mut postings,
-    )?;
-    let third = write_one(
-        rt,
-        second,
-        300,
-        130,
-        &mut docs,
-        &mut freqs,
-        &mut skips,
-        &mut postings,
-    )?;
-    let closed = close_term_in(third, 3, &docs, &freqs, &skips, &postings, output);
-    let answer = closed.answer;
-    tell_written(rt, answer)
+    for (doc, freq) in [(3, 1), (7, 2), (300, 130)] {
+        progress = write_one(
+            rt,
+            progress,
+            doc,
+            freq,
+            &mut docs,
+            &mut freqs,
+            &mut skips,
+            &mut postings,
+        )?;
+    }
+    let closed = close_term_in(progress, 3, &docs, &freqs, &skips, &postings, output);
+    tell_written(rt, closed.answer)
 }

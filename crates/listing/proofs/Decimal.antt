@@ -10,6 +10,7 @@ use native.Mathlib.Omega.{arith}
 use borrow.Author.Tests.{lt-ltb, le-ltb}
 use lib.ListN.{length, length-append}
 use Rattle.io.specs.Digits.{last_digits, hex_digit_ascii, IsDigitCount}
+use Rattle.format.specs.declared.refusal.Refusal.{Refusal}
 use Rattle.format.specs.Basics.{choose}
 use Rattle.format.specs.Model.{Answer}
 use Rattle.format.specs.Model as model
@@ -73,7 +74,7 @@ pub line-is : (d f u : ℕ) → line (model.at d f u) ≡ field d 32 ++ (field f
 unfolding line
 line-is d f u = refl
 
-pub line-none : (n : ℕ) → line (model.refused n) ≡ []
+pub line-none : (n : Refusal) → line (model.refused n) ≡ []
 unfolding line
 line-none n = refl
 

@@ -1,6 +1,9 @@
 -- The bytes up to the first of a kind and those behind it are a front and the rest of a text, and a text that isn't empty has its first
 -- line and then the lines of the bytes behind it. Each by induction on the text, by whether its first byte is the one looked for.
 -- Assumes nothing.
+use Rattle.std.specs.Prelude.{Option, None, Some, cond, ltb}
+use Rattle.std.specs.List.{position_or_len}
+use Rattle.std.proofs.lemmas.Option.{cond_some}
 use mathlib.Core.Bool.{Bool, true, false}
 use mathlib.Core.List.{List, [], ◌∷◌}
 use mathlib.Core.Path.{◌≡◌, refl, sym, ap, ◌∙◌}
@@ -8,10 +11,9 @@ use Prim.Native.Nat.{ℕ, suc, ◌+◌, ◌-◌, ◌≤◌, ◌<◌}
 use native.Mathlib.Nat.{add-suc}
 use native.Mathlib.Numerals.{add-one}
 use native.Mathlib.Omega.{arith}
-use borrow.Author.Tests.{eq-eqb, ne_eqb}
 use lib.Dec.{eqb}
 use lib.ListN.{length, get_or, take, drop, length-drop}
-use lib.Seq.{drop-cons, drop-length, drop-drop}
+use lib.Seq.{drop-cons, drop-drop}
 use Rattle.format.specs.Basics.{choose}
 use Rattle.listing.specs.Input.{up_to, behind, onto, lines}
 
@@ -33,19 +35,6 @@ module _ (b : ℕ) where
   behind-on : (x : ℕ) (xs : List ℕ) → eqb x b ≡ false → behind b (x ∷ xs) ≡ behind b xs
   unfolding behind choose
   behind-on x xs e = rw e
-
-  -- ---- a search
-
-  module _ (text : List ℕ) (i : ℕ) (more : i < length text) where
-    pub found : get_or text i 0 ≡ b → length (up_to b (drop i text)) ≡ 0
-    found e = rw (drop-cons text i 0, up_to-here _ _ (eq-eqb _ _ e))
-
-    pub passed : (get_or text i 0 ≡ b → ⊥) → length (up_to b (drop i text)) ≡ 1 + length (up_to b (drop (i + 1) text))
-    passed n = rw (drop-cons text i 0, up_to-on _ _ (ne_eqb _ _ n), add-one) (omega arith)
-
-  pub found_none : (text : List ℕ) → length (up_to b (drop (length text) text)) ≡ 0
-  unfolding up_to
-  found_none text = rw (drop-length text)
 
   -- ---- a front and the rest
 
@@ -75,6 +64,32 @@ module _ (b : ℕ) where
       go : (t : Bool) → eqb x b ≡ t → length (up_to b xs) ≤ length xs → length (up_to b (x ∷ xs)) ≤ length (x ∷ xs)
       go true e later = rw (up_to-here x xs e) (omega arith)
       go false e later = rw (up_to-on x xs e) (omega arith)
+
+  -- ---- a search
+
+  -- the bytes up to the first are as many as its place says
+  abbrev place : List ℕ → ℕ
+  place l = position_or_len (λ x. eqb x b) l
+
+  passed : (l : List ℕ) → length (up_to b l) ≡ place l
+  unfolding up_to choose
+  passed [] = refl
+  passed (x ∷ xs) = go (eqb x b) refl (passed xs)
+    where
+      go : (t : Bool) → eqb x b ≡ t → length (up_to b xs) ≡ place xs → length (up_to b (x ∷ xs)) ≡ place (x ∷ xs)
+      go true e later = rw (up_to-here x xs e, e)
+      go false e later = rw (up_to-on x xs e, e, later) (omega arith)
+
+  module _ (l : List ℕ) {r : Option ℕ} (told : r ≡ cond (ltb (place l) (length l)) (Some (place l)) None) where
+    pub found : (n : ℕ) → r ≡ Some n → n ≡ length (up_to b l)
+    found n is = sym (passed l ∙ (cond_some (ltb (place l) (length l)) (place l) n (sym told ∙ is)).1)
+
+    pub found_none : r ≡ None → length (up_to b l) ≡ length l
+    found_none is = go (ltb (place l) (length l)) refl
+      where
+        go : (t : Bool) → ltb (place l) (length l) ≡ t → length (up_to b l) ≡ length l
+        go true e = let some : r ≡ Some (place l) = told ∙ rw e in grind arith
+        go false e = let past : length l ≤ place l = grind arith in omega (arith, passed l, up_to-most l)
 
   -- with a byte behind it, the byte itself is there too
   pub up_to-long : (l : List ℕ) → 1 ≤ length (behind b l) → length (up_to b l) + 1 + length (behind b l) ≤ length l

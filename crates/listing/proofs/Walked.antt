@@ -1,6 +1,7 @@
 -- The lines of a walk: what is put so far and what the model answers to the steps left are together the whole text. The cursor goes with
 -- the model, so that each answer's line is the model's.
 -- Assumes nothing.
+use Rattle.std.specs.Prelude.{Ok}
 use mathlib.Core.List.{List, [], ◌∷◌, ◌++◌, append_assoc, append-nil}
 use mathlib.Core.Path.{◌≡◌, refl, sym, ◌∙◌}
 use Prim.Native.Nat.{ℕ, suc, ◌+◌, ◌*◌, ◌≤◌}
@@ -65,7 +66,7 @@ module _ (t : Term) (bs : List ℕ) where
     pub puts : Puts text start output₀ output next
     pub room : next + 63 * left ≤ length output₀
 
-  module _ (sound : (reading t bs).refusal ≡ 0) where
+  module _ (sound : (reading t bs).verdict ≡ Ok tt) where
     -- the line of opening, then those of the steps
     pub walk_first : line (shown (opened bs t).answer) ++ all_steps ≡ steps docs freqs
     walk_first =

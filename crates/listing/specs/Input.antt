@@ -1,16 +1,11 @@
 -- Which texts are tables, and the columns that they give. A text is a list of bytes: 10 is a line feed, 32 a space, 48 to 57 are the digits.
 -- Assumes nothing.
-use Rattle.std.specs.Prelude.{◌≡◌, Bool, ◌&&◌ as and, List, [], ◌∷◌, ℕ, ◌+◌, ◌-◌, ◌*◌, ◌≤◌, ◌^◌, eqb, leb, ltb, take}
+use Rattle.std.specs.Prelude.{◌≡◌, List, [], ◌∷◌, ℕ, ◌+◌, ◌-◌, ◌*◌, ◌≤◌, ◌^◌, eqb, ltb, take, Option, None, Some, IfSome, option_map, option_and_then}
+use Rattle.std.specs.Char.{is_ascii_digit}
+use Rattle.std.specs.Str.{bytes_eq}
 use Rattle.format.specs.Basics.{choose}
-use Rattle.format.specs.Worked.{same}
-use Rattle.listing.specs.declared.table.Number.{Number}
-use Rattle.listing.specs.declared.table.Number.TheVariants as number-as
-use Rattle.listing.specs.declared.table.Row.{Row}
-use Rattle.listing.specs.declared.table.Row.TheVariants as Row-as
-use Rattle.listing.specs.declared.table.Names.{Names}
-use Rattle.listing.specs.declared.table.Names.TheVariants as names-as
-use Rattle.listing.specs.declared.table.Parsed.{Parsed}
-use Rattle.listing.specs.declared.table.Parsed.TheVariants as parsed-as
+use Rattle.listing.specs.declared.table.Order.{Order}
+use Rattle.listing.specs.declared.table.Order.TheVariants.{DocFreq, FreqDoc}
 
 -- ---- lines and their parts
 
@@ -39,46 +34,45 @@ lines (b ∷ bs) = choose (eqb b 10) (λ _. [] ∷ lines bs) (λ _. onto b (line
 
 -- ---- numbers
 
-unfoldable pub is_digit : ℕ → Bool
-is_digit b = and (leb 48 b) (leb b 57)
-
 -- digits alone, the value below 2 ^ 32; `value` is that of the digits so far
-unfoldable pub number_from : ℕ → List ℕ → Number
-unfolding choose is_digit
-number_from value [] = choose (ltb value (2 ^ 32)) (λ _. number-as.Is value) (λ _. number-as.Malformed)
-number_from value (b ∷ bs) = choose (is_digit b) (λ _. number_from (10 * value + (b - 48)) bs) (λ _. number-as.Malformed)
+unfoldable pub number_from : ℕ → List ℕ → Option ℕ
+unfolding choose
+number_from value [] = choose (ltb value (2 ^ 32)) (λ _. Some value) (λ _. None)
+number_from value (b ∷ bs) = choose (is_ascii_digit b) (λ _. number_from (10 * value + (b - 48)) bs) (λ _. None)
 
 -- .. and one digit at least
-unfoldable pub number : List ℕ → Number
+unfoldable pub number : List ℕ → Option ℕ
 unfolding number_from
-number [] = number-as.Malformed
+number [] = None
 number (b ∷ bs) = number_from 0 (b ∷ bs)
 
 -- ---- rows
 
-unfoldable pub both : Number → Number → Row
-both (number-as.Is a) (number-as.Is b) = Row-as.Of a b
-both (number-as.Is a) number-as.Malformed = Row-as.Malformed
-both number-as.Malformed n = Row-as.Malformed
+unfoldable pub both : Option ℕ → Option ℕ → Option (ℕ × ℕ)
+both (Some a) (Some b) = Some (a, b)
+both (Some a) None = None
+both None n = None
 
 -- two numbers, one space between
-unfoldable pub row : List ℕ → Row
+unfoldable pub row : List ℕ → Option (ℕ × ℕ)
 unfolding both number up_to behind
 row line = both (number (up_to 32 line)) (number (behind 32 line))
 
--- the first numbers and the second ones; or that a line is none of two numbers
-pub data Columns : Type 0 where
-  columns : List ℕ → List ℕ → Columns
-  malformed : Columns
+-- the first numbers and the second ones
+pub record Columns : Type 0 where
+  pub firsts : List ℕ
+  pub seconds : List ℕ
 
-unfoldable pub with_row : Row → Columns → Columns
-with_row (Row-as.Of a b) (columns firsts seconds) = columns (a ∷ firsts) (b ∷ seconds)
-with_row (Row-as.Of a b) malformed = malformed
-with_row Row-as.Malformed c = malformed
+-- a line in front
+unfoldable pub with_row : Option (ℕ × ℕ) → Option Columns → Option Columns
+with_row (Some (a, b)) (Some c) = Some (record { firsts = a ∷ c.firsts; seconds = b ∷ c.seconds })
+with_row (Some (a, b)) None = None
+with_row None c = None
 
-unfoldable pub rows : List (List ℕ) → Columns
+-- the columns of these lines, if each is one of two numbers
+unfoldable pub rows : List (List ℕ) → Option Columns
 unfolding with_row row
-rows [] = columns [] []
+rows [] = Some (record { firsts = []; seconds = [] })
 rows (l ∷ ls) = with_row (row l) (rows ls)
 
 -- ---- tables
@@ -91,40 +85,29 @@ doc_freq = 100 ∷ 111 ∷ 99 ∷ 32 ∷ 102 ∷ 114 ∷ 101 ∷ 113 ∷ []
 abbrev pub freq_doc : List ℕ
 freq_doc = 102 ∷ 114 ∷ 101 ∷ 113 ∷ 32 ∷ 100 ∷ 111 ∷ 99 ∷ []
 
-unfoldable pub names : List ℕ → Names
-unfolding choose same
+unfoldable pub names : List ℕ → Option Order
+unfolding choose
 names line =
-    choose (same line doc_freq) (λ _. names-as.DocFreq) λ _.
-    choose (same line freq_doc) (λ _. names-as.FreqDoc) λ _.
-    names-as.Malformed
-
-unfoldable pub swapped : Columns → Columns
-swapped (columns firsts seconds) = columns seconds firsts
-swapped malformed = malformed
+    choose (bytes_eq line doc_freq) (λ _. Some DocFreq) λ _.
+    choose (bytes_eq line freq_doc) (λ _. Some FreqDoc) λ _.
+    None
 
 -- the documents first
-unfoldable pub in_order : Names → Columns → Columns
-unfolding swapped
-in_order names-as.DocFreq c = c
-in_order names-as.FreqDoc c = swapped c
-in_order names-as.Malformed c = malformed
+unfoldable pub in_order : Order → Columns → Columns
+in_order DocFreq c = c
+in_order FreqDoc c = record { firsts = c.seconds; seconds = c.firsts }
 
--- the line of names, then lines of two numbers
-unfoldable pub table : List ℕ → Columns
+-- the line of names, then lines of two numbers: the documents and the frequencies
+unfoldable pub table : List ℕ → Option Columns
 unfolding in_order names rows lines up_to behind
-table text = in_order (names (up_to 10 text)) (rows (lines (behind 10 text)))
+table text = option_and_then (λ order. option_map (in_order order) (rows (lines (behind 10 text)))) (names (up_to 10 text))
 
 -- ---- columns in two slices
 
-unfoldable pub taken : Parsed → List ℕ → List ℕ → Columns
-taken (parsed-as.Rows n) firsts seconds = columns (take n firsts) (take n seconds)
-taken parsed-as.Malformed firsts seconds = malformed
+abbrev pub taken : ℕ → List ℕ → List ℕ → Columns
+taken n firsts seconds = record { firsts = take n firsts; seconds = take n seconds }
 
-unfoldable pub count : Parsed → ℕ
-count (parsed-as.Rows n) = n
-count parsed-as.Malformed = 0
-
--- the columns c stand at the fronts of two slices
-pub record Reads (c : Columns) (firsts seconds : List ℕ) (r : Parsed) : Type 0 where
-  pub columns_are : taken r firsts seconds ≡ c
-  pub within : count r ≤ 16384
+-- the columns c stand at the fronts of two slices, if there are any
+pub record Reads (c : Option Columns) (firsts seconds : List ℕ) (r : Option ℕ) : Type 0 where
+  pub columns_are : option_map (λ n. taken n firsts seconds) r ≡ c
+  pub within : IfSome r (λ n. n ≤ 16384)

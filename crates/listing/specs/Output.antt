@@ -1,11 +1,11 @@
 -- What the program prints: a line for each answer of the model on the table's columns, opening first, then a step for each document.
 -- Assumes nothing.
-use Rattle.std.specs.Prelude.{◌≡◌, true, List, [], ◌∷◌, ◌++◌, ℕ, zero, suc, ◌+◌, ◌/◌, ◌%◌, ◌≤◌, leb, ltb, length, replicate}
-use Rattle.format.specs.Basics.{Outcome, ok, refused, choose, put_at}
+use Rattle.std.specs.Prelude.{◌≡◌, true, List, [], ◌∷◌, ◌++◌, ℕ, zero, suc, ◌+◌, ◌/◌, ◌%◌, ◌≤◌, leb, ltb, length, replicate, Option, None, Some, Ok, Err}
+use Rattle.format.specs.Basics.{Outcome, choose, put_at}
 use Rattle.format.specs.Accepted.{written}
 use Rattle.format.specs.Model.{Answer, step, answers}
 use Rattle.format.specs.Model as model
-use Rattle.listing.specs.Input.{Columns, columns, malformed, table}
+use Rattle.listing.specs.Input.{Columns, table}
 
 -- ---- numbers
 
@@ -54,18 +54,18 @@ refusal = 114 ∷ 101 ∷ 102 ∷ 117 ∷ 115 ∷ 101 ∷ 100 ∷ 10 ∷ []
 -- ---- the program
 
 unfoldable pub unless_refused : Outcome (List ℕ) → List ℕ → List ℕ
-unless_refused (ok image) text = text
-unless_refused (refused n) text = refusal
+unless_refused (Ok image) text = text
+unless_refused (Err why) text = refusal
 
 -- a list in mode 1, frequencies recorded
 unfoldable pub listing : List ℕ → List ℕ → List ℕ
 unfolding unless_refused written steps
 listing ds fs = unless_refused (written 1 true ds fs) (header ++ steps ds fs)
 
-unfoldable pub listing_in : Columns → List ℕ
+unfoldable pub listing_in : Option Columns → List ℕ
 unfolding listing
-listing_in (columns ds fs) = listing ds fs
-listing_in malformed = refusal
+listing_in (Some c) = listing c.firsts c.seconds
+listing_in None = refusal
 
 -- of an input of 64 KiB at most
 unfoldable pub listing_of : List ℕ → List ℕ

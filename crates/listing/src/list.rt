@@ -1,42 +1,22 @@
 // The listing of a table: it is read, written as a posting list, and that list is stepped through.
 
-ghost use Rattle.std.specs.Prelude.{◌≡◌, ◌+◌, ◌*◌, ◌≤◌, length};
+ghost use Rattle.std.specs.Prelude.{Ok, ◌≡◌, ◌+◌, ◌*◌, ◌≤◌, length};
 ghost use Rattle.format.specs.Reading.{reading, docs_of, freqs_of};
 ghost use Rattle.listing.specs.Output.{Puts, refusal, steps, listing, listing_of};
 
-use crate::table::{Parsed, read_table};
+use crate::table::read_table;
 use crate::text::put_answer;
 use common::put;
 use format::Term;
 use segment_postings::{advance, open};
-use serializer::{Written, write_list};
+use serializer::write_list;
 
-// A column of the longest table: 65,536 bytes hold fewer rows, of four bytes or more.
-fn column() -> [u32; 16384]
-    ensures { length result ≡ 16384 }
+// What is lent: an array, since the project has no heap. A function makes it, since of an array that is written where it is lent the
+// prover counts the places.
+fn area<T: Copy, const N: usize>(zero: T) -> [T; N]
+    ensures { length result ≡ N }
 {
-    [0; 16384]
-}
-
-// Room for the entries of its 128 full blocks at most, 8 bytes each.
-fn skips_area() -> [u8; 1024]
-    ensures { length result ≡ 1024 }
-{
-    [0; 1024]
-}
-
-// .. for the blocks, 1,024 bytes each at most.
-fn postings_area() -> [u8; 131072]
-    ensures { length result ≡ 131072 }
-{
-    [0; 131072]
-}
-
-// .. for both with the skip length in front, and a tail.
-fn image_area() -> [u8; 163840]
-    ensures { length result ≡ 163840 }
-{
-    [0; 163840]
+    [zero; N]
 }
 
 // Puts the one line of a refusal.
@@ -44,26 +24,20 @@ fn put_refusal(output: &mut [u8]) -> usize
     requires { 8 ≤ length output.old }
     ensures { Puts refusal 0 output.old output.new result }
 {
-    put(b"refused\n", output, 0);
-    8
+    put(b"refused\n", output, 0).unwrap()
 }
 
 // Opens a sound image and steps to its end, and puts the line of each answer.
 fn put_steps(image: &[u8], term: Term, output: &mut [u8], at: usize) -> usize
-    requires { ((reading term image.now).refusal ≡ 0) × (at + 63 * (term.count + 1) ≤ length output.old) }
+    requires { ((reading term image.now).verdict ≡ Ok tt) × (at + 63 * (term.count + 1) ≤ length output.old) }
     ensures { Puts (steps (docs_of (reading term image.now).blocks) (freqs_of (reading term image.now).blocks))
         at output.old output.new result }
 {
-    let opened = open(image, term);
-    let answer = opened.answer;
-    let mut cursor = opened.cursor;
-    let mut next = put_answer(answer, output, at);
-    let count = term.count as usize;
-    for _ in 0..count {
-        let moved = advance(cursor, image, term);
-        let answer = moved.answer;
-        next = put_answer(answer, output, next);
-        cursor = moved.cursor;
+    let mut moved = open(image, term);
+    let mut next = put_answer(moved.answer, output, at);
+    for _ in 0..term.count {
+        moved = advance(moved.cursor, image, term);
+        next = put_answer(moved.answer, output, next);
     }
     next
 }
@@ -73,20 +47,22 @@ fn list_columns(ids: &[u32], freqs: &[u32], output: &mut [u8]) -> usize
     requires { (length ids.now ≤ 16384) × (length output.old ≡ 1048576) }
     ensures { Puts (listing ids.now freqs.now) 0 output.old output.new result }
 {
-    let mut skips = skips_area();
-    let mut postings = postings_area();
-    let mut image = image_area();
+    // Room for the entries of 128 full blocks at most, 8 bytes each; for the blocks, 1,024 bytes each at most; and for both with the
+    // skip length in front, and a tail.
+    let mut skips = area::<u8, 1024>(0);
+    let mut postings = area::<u8, 131072>(0);
+    let mut image = area::<u8, 163840>(0);
     match write_list(1, true, ids, freqs, &mut skips, &mut postings, &mut image) {
-        Written::Bytes(size) => {
-            put(b"doc freq unpacked\n", output, 0);
+        Ok(size) => {
+            let next = put(b"doc freq unpacked\n", output, 0).unwrap();
             let term = Term {
                 mode: 1,
                 requested: 1,
                 count: ids.len() as u32,
             };
-            put_steps(&image[..size], term, output, 18)
+            put_steps(&image[..size], term, output, next)
         }
-        Written::Refused(_) => put_refusal(output),
+        Err(_) => put_refusal(output),
     }
 }
 
@@ -98,10 +74,11 @@ pub(crate) fn list_table(text: &[u8], output: &mut [u8]) -> usize
     if 65536 < text.len() {
         return put_refusal(output);
     }
-    let mut ids = column();
-    let mut freqs = column();
+    // Columns of the longest table: 65,536 bytes hold fewer rows, of four bytes or more.
+    let mut ids = area::<u32, 16384>(0);
+    let mut freqs = area::<u32, 16384>(0);
     match read_table(text, &mut ids, &mut freqs) {
-        Parsed::Rows(n) => list_columns(&ids[..n], &freqs[..n], output),
-        Parsed::Malformed => put_refusal(output),
+        Some(n) => list_columns(&ids[..n], &freqs[..n], output),
+        None => put_refusal(output),
     }
 }

@@ -4,7 +4,6 @@
 
 #![tactic(auto)]
 
-mod input;
 mod list;
 mod table;
 mod text;
@@ -15,13 +14,6 @@ use input::read_full;
 use list::list_table;
 use std::io;
 
-// Room for the longest input that is taken, and one byte more, which shows that an input is longer.
-fn input_buffer() -> [u8; 65537]
-    ensures { length result ≡ 65537 }
-{
-    [0; 65537]
-}
-
 // Room for the longest listing: the header and 16,385 lines of 63 bytes at most. Its length is in the type alone: to prove a clause that
 // says it the prover would count up to it.
 fn output_buffer() -> [u8; 1048576] {
@@ -30,7 +22,8 @@ fn output_buffer() -> [u8; 1048576] {
 
 // A read that fails counts as the end of the input; a write that fails ends the program with its error.
 fn main(rt: HostRuntime) -> io::Result<()> {
-    let mut input = input_buffer();
+    // Room for the longest input that is taken, and one byte more, which shows that an input is longer.
+    let mut input = [0u8; 65537];
     let size = read_full(&mut rt.stdin(), &mut input);
     let mut output = output_buffer();
     let end = list_table(&input[..size], &mut output);

@@ -3,35 +3,11 @@
 ghost use Rattle.std.specs.Prelude.{◌≡◌, ◌+◌, ◌≤◌, length, drop};
 ghost use Rattle.listing.specs.Input.{up_to, number, row, names, lines, rows, table, Reads};
 
-use check::same;
-
-// A number that was read; or that there is none.
+// The order in which the line of names has the two columns.
 #[derive(Clone, Copy)]
-pub enum Number {
-    Is(u32),
-    Malformed,
-}
-
-// The two numbers of a line; or that it isn't a line of two numbers.
-#[derive(Clone, Copy)]
-pub enum Row {
-    Of { first: u32, second: u32 },
-    Malformed,
-}
-
-// The order in which the line of names has the two columns; or that it isn't such a line.
-#[derive(Clone, Copy)]
-pub enum Names {
+pub enum Order {
     DocFreq,
     FreqDoc,
-    Malformed,
-}
-
-// How many rows were read; or that the text isn't a table.
-#[derive(Clone, Copy)]
-pub enum Parsed {
-    Rows(usize),
-    Malformed,
 }
 
 // Where the first `byte` from place `at` on stands; where there is none, the end.
@@ -39,110 +15,84 @@ fn find(text: &[u8], at: usize, byte: u8) -> usize
     requires { at ≤ length text.now }
     ensures { (result ≡ at + length (up_to byte (drop at text.now))) × (result ≤ length text.now) }
 {
-    let mut i = at;
-    while i < text.len() {
-        if text[i] == byte {
-            return i;
-        }
-        i += 1;
+    match text[at..].iter().position(|&b| b == byte) {
+        Some(passed) => at + passed,
+        None => text.len(),
     }
-    i
-}
-
-// A byte as a number.
-fn wide(byte: u8) -> u64
-    ensures { result ≡ byte }
-{
-    byte as u64
 }
 
 // Reads a number: decimal digits alone, below 2 ^ 32.
-fn read_number(text: &[u8]) -> Number
+fn read_number(text: &[u8]) -> Option<u32>
     ensures { result ≡ number text.now }
 {
-    if text.len() == 0 {
-        return Number::Malformed;
+    if text.is_empty() {
+        return None;
     }
-    let mut value = 0u64;
-    let mut i = 0;
-    while i < text.len() {
-        let digit = wide(text[i]);
-        if digit < 48 {
-            return Number::Malformed;
+    let mut value = 0u32;
+    for &byte in text {
+        if !byte.is_ascii_digit() {
+            return None;
         }
-        if 57 < digit {
-            return Number::Malformed;
-        }
-        value = 10 * value + (digit - 48);
-        if 4294967295 < value {
-            return Number::Malformed;
-        }
-        i += 1;
+        value = value.checked_mul(10)?.checked_add((byte - b'0') as u32)?;
     }
-    Number::Is(value as u32)
+    Some(value)
 }
 
 // Reads a line of two numbers with one space between them.
-fn read_row(line: &[u8]) -> Row
+fn read_row(line: &[u8]) -> Option<(u32, u32)>
     ensures { result ≡ row line.now }
 {
-    let space = find(line, 0, 32);
+    let space = find(line, 0, b' ');
     if space == line.len() {
-        return Row::Malformed;
+        return None;
     }
-    let behind = space + 1;
-    let Number::Is(first) = read_number(&line[..space]) else {
-        return Row::Malformed;
-    };
-    let Number::Is(second) = read_number(&line[behind..]) else {
-        return Row::Malformed;
-    };
-    Row::Of { first, second }
+    let first = read_number(&line[..space])?;
+    let second = read_number(&line[space + 1..])?;
+    Some((first, second))
 }
 
 // Reads the line of names.
-fn read_names(line: &[u8]) -> Names
+fn read_names(line: &[u8]) -> Option<Order>
     ensures { result ≡ names line.now }
 {
-    if same(line, b"doc freq") {
-        return Names::DocFreq;
+    if line == b"doc freq".as_slice() {
+        return Some(Order::DocFreq);
     }
-    if same(line, b"freq doc") {
-        return Names::FreqDoc;
+    if line == b"freq doc".as_slice() {
+        return Some(Order::FreqDoc);
     }
-    Names::Malformed
+    None
 }
 
-// Reads the rows from place `start` on into two columns. A row takes four bytes or more, so that there is room for all of them.
-fn read_rows(text: &[u8], start: usize, firsts: &mut [u32], seconds: &mut [u32]) -> Parsed
+// Reads the rows from place `start` on into two columns: how many there are, `None` where a line is none. A row takes four bytes or
+// more, so that there is room for all of them. The loop goes by places: of a text that ends in a line feed `split` would give an empty line
+// more. The columns are two slices, as `write_list` takes them.
+fn read_rows(text: &[u8], start: usize, firsts: &mut [u32], seconds: &mut [u32]) -> Option<usize>
     requires { (length text.now ≤ 65536) × (length firsts.old ≡ 16384) × (length seconds.old ≡ 16384) }
     ensures { Reads (rows (lines (drop start text.now))) firsts.new seconds.new result }
 {
     let mut at = start;
     let mut n = 0;
     while at < text.len() {
-        let end = find(text, at, 10);
-        let Row::Of { first, second } = read_row(&text[at..end]) else {
-            return Parsed::Malformed;
-        };
+        let end = find(text, at, b'\n');
+        let (first, second) = read_row(&text[at..end])?;
         firsts[n] = first;
         seconds[n] = second;
         n += 1;
         at = end + 1;
     }
-    Parsed::Rows(n)
+    Some(n)
 }
 
-// Reads a table into its columns.
-pub(crate) fn read_table(text: &[u8], ids: &mut [u32], freqs: &mut [u32]) -> Parsed
+// Reads a table into its columns: how many rows there are, `None` where the text is no table.
+pub(crate) fn read_table(text: &[u8], ids: &mut [u32], freqs: &mut [u32]) -> Option<usize>
     requires { (length text.now ≤ 65536) × (length ids.old ≡ 16384) × (length freqs.old ≡ 16384) }
     ensures { Reads (table text.now) ids.new freqs.new result }
 {
-    let end = find(text, 0, 10);
+    let end = find(text, 0, b'\n');
     let start = end + 1;
-    match read_names(&text[..end]) {
-        Names::DocFreq => read_rows(text, start, ids, freqs),
-        Names::FreqDoc => read_rows(text, start, freqs, ids),
-        Names::Malformed => Parsed::Malformed,
+    match read_names(&text[..end])? {
+        Order::DocFreq => read_rows(text, start, ids, freqs),
+        Order::FreqDoc => read_rows(text, start, freqs, ids),
     }
 }

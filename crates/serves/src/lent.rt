@@ -4,7 +4,7 @@
 ghost use Rattle.std.specs.Prelude.{◌≡◌};
 ghost use Rattle.serves.specs.Lent.{stepped, LeavesPlace};
 
-// What a step answers.
+// What a step answers. It isn't an `Option`, since the theorem takes the answer as a type that the crate declares.
 #[derive(Clone, Copy)]
 pub enum Shown {
     Nothing,

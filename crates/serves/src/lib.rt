@@ -1,5 +1,8 @@
 // Many targets looked up in one reading, with a stand-in for the cursor: the first use of `thin`'s loops over a lent slice. The
 // gate checks it, so that the theorems are shown to apply, until a call over many targets takes its place. Nothing links it.
+//
+// The theorems are about loops of this form over records that C shares: a place is counted, and a refusal is a number, 0 where there is
+// none, with what a refused call leaves beside it. So neither is a `Result` or an iterator here.
 
 #![tactic(auto)]
 

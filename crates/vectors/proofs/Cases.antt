@@ -1,5 +1,6 @@
 -- The layout of a case, question by question; and the replay of the cases, opened by one turn.
 -- Assumes nothing.
+use Rattle.std.specs.Prelude.{None, Some, option_and_then, is_ok}
 use mathlib.Core.Bool.{Bool, true, false, not, ◌&&◌ as and, and-eq-true_iff}
 use mathlib.Core.List.{List, [], ◌∷◌, ◌++◌}
 use mathlib.Core.Path.{◌≡◌, refl, sym, ◌∙◌}
@@ -12,35 +13,33 @@ use Rattle.format.specs.Basics.{choose, tabulate_from, tabulate, word}
 use Rattle.format.specs.Reading.{soundness}
 use Rattle.format.proofs.Tabulate.{tabulate-more}
 use Rattle.vectors.specs.declared.sample.Case.{Case}
-use Rattle.vectors.specs.declared.sample.Parsed.TheVariants.{Is, Malformed}
-use Rattle.vectors.specs.declared.Replayed.TheVariants as all
 use Rattle.vectors.specs.Sample.{short, words, case_of, case_at}
-use Rattle.vectors.specs.Replay.{zeros, writes_image, reads_back_of, agrees, Within, case_agrees, count_differing, on_case, replay_from, replayed}
+use Rattle.vectors.specs.Replay.{zeros, writes_image, reads_back_of, agrees, Within, case_agrees, count_differing, replay_from, replayed}
 
 module _ (bs : List ℕ) (p : ℕ) where
   -- the three questions
   abbrev there : Bool
   there = and (leb (p + 6) (length bs)) (and (leb (case_of bs p).count 512) (leb (case_of bs p).end (length bs)))
 
-  case_at-is : case_at bs p ≡ choose there (λ _. Is (case_of bs p)) (λ _. Malformed)
+  case_at-is : case_at bs p ≡ choose there (λ _. Some (case_of bs p)) (λ _. None)
   unfolding case_at
   case_at-is = refl
 
-  pub no_head : length bs < p + 6 → case_at bs p ≡ Malformed
+  pub no_head : length bs < p + 6 → case_at bs p ≡ None
   unfolding choose
   no_head h = rw (case_at-is, lt-leb (p + 6) (length bs) h)
 
   module _ (head : p + 6 ≤ length bs) where
-    pub too_long : 512 < (case_of bs p).count → case_at bs p ≡ Malformed
+    pub too_long : 512 < (case_of bs p).count → case_at bs p ≡ None
     unfolding choose
     too_long h = rw (case_at-is, le-leb (p + 6) (length bs) head, lt-leb (case_of bs p).count 512 h)
 
     module _ (few : (case_of bs p).count ≤ 512) where
-      pub cut_off : length bs < (case_of bs p).end → case_at bs p ≡ Malformed
+      pub cut_off : length bs < (case_of bs p).end → case_at bs p ≡ None
       unfolding choose
       cut_off h = rw (case_at-is, le-leb (p + 6) (length bs) head, le-leb (case_of bs p).count 512 few, lt-leb (case_of bs p).end (length bs) h)
 
-      pub all_there : (case_of bs p).end ≤ length bs → case_at bs p ≡ Is (case_of bs p)
+      pub all_there : (case_of bs p).end ≤ length bs → case_at bs p ≡ Some (case_of bs p)
       unfolding choose
       all_there h = rw (case_at-is, le-leb (p + 6) (length bs) head, le-leb (case_of bs p).count 512 few, le-leb (case_of bs p).end (length bs) h)
 
@@ -69,7 +68,7 @@ pub words-none : (bs : List ℕ) (p : ℕ) → words bs p 0 ≡ []
 unfolding words tabulate tabulate_from
 words-none bs p = refl
 
-chosen : (t : Bool) (x c : Case) → choose t (λ _. Is x) (λ _. Malformed) ≡ Is c → (t ≡ true) × (x ≡ c)
+chosen : (t : Bool) (x c : Case) → choose t (λ _. Some x) (λ _. None) ≡ Some c → (t ≡ true) × (x ≡ c)
 unfolding choose
 chosen true x c e = (refl, cc)
 chosen false x c e = let z : ◌≡◌ {A = ℕ} 0 1 = cc in absurd (omega arith)
@@ -80,7 +79,7 @@ within_of bs p few h =
     record { few = few; docs_there = omega arith; freqs_there = omega arith; image_there = omega arith; end_there = h }
 
 -- a case that is found is within the sample
-pub case_within : (bs : List ℕ) (p : ℕ) (c : Case) → case_at bs p ≡ Is c → Within bs c
+pub case_within : (bs : List ℕ) (p : ℕ) (c : Case) → case_at bs p ≡ Some c → Within bs c
 case_within bs p c e =
     let found = chosen (there bs p) (case_of bs p) c (sym (case_at-is bs p) ∙ e) in
     let n = (case_of bs p).count in
@@ -92,7 +91,7 @@ case_within bs p c e =
 -- ---- the cases one after the other
 
 module _ (bs : List ℕ) where
-  pub replayed-none : length bs < 2 → replayed bs ≡ all.Malformed
+  pub replayed-none : length bs < 2 → replayed bs ≡ None
   unfolding replayed choose
   replayed-none h = rw (lt-leb 2 (length bs) h)
 
@@ -106,28 +105,26 @@ module _ (bs : List ℕ) where
   module _ (cases differ p : ℕ) where
     turn : (n : ℕ)
         → replay_from bs cases (suc n) p differ
-        ≡ (on_case (case_at bs p) λ c. replay_from bs cases n c.end (count_differing (case_agrees bs c) differ))
+        ≡ option_and_then (λ (c : Case). replay_from bs cases n c.end (count_differing (case_agrees bs c) differ)) (case_at bs p)
     unfolding replay_from
     turn n = refl
 
     -- no case where one should be
-    pub replay_stop : (n : ℕ) → 0 < n → case_at bs p ≡ Malformed → replay_from bs cases n p differ ≡ all.Malformed
-    unfolding on_case
+    pub replay_stop : (n : ℕ) → 0 < n → case_at bs p ≡ None → replay_from bs cases n p differ ≡ None
     replay_stop (suc n) h e = rw (turn n, e)
     replay_stop zero h e = absurd (omega arith)
 
     -- a case, and on behind it
-    pub replay_on : (n : ℕ) (c : Case) → 0 < n → case_at bs p ≡ Is c
+    pub replay_on : (n : ℕ) (c : Case) → 0 < n → case_at bs p ≡ Some c
         → replay_from bs cases n p differ ≡ replay_from bs cases (n - 1) c.end (count_differing (case_agrees bs c) differ)
-    unfolding on_case
     replay_on (suc n) c h e = let less : suc n - 1 ≡ n = omega arith in rw (turn n, e, less)
     replay_on zero c h e = absurd (omega arith)
 
-    pub replay_end : p ≡ length bs → replay_from bs cases 0 p differ ≡ all.All cases differ
+    pub replay_end : p ≡ length bs → replay_from bs cases 0 p differ ≡ Some (record { cases = cases; differ = differ })
     unfolding replay_from choose
     replay_end e = rw (eq-eqb p (length bs) e)
 
-    pub replay_left : (p ≡ length bs → ⊥) → replay_from bs cases 0 p differ ≡ all.Malformed
+    pub replay_left : (p ≡ length bs → ⊥) → replay_from bs cases 0 p differ ≡ None
     unfolding replay_from choose
     replay_left h = rw (ne_eqb p (length bs) h)
 
@@ -136,7 +133,7 @@ module _ (bs : List ℕ) where
 pub agrees-is : (mode : ℕ) (recording : Bool) (ds fs image : List ℕ)
     → agrees mode recording ds fs image
     ≡ and (writes_image mode recording ds fs image (zeros 32) (zeros 4032) (zeros 8192))
-    (and (reads_back_of mode recording ds fs image) (eqb (soundness mode (length ds) image) 0))
+    (and (reads_back_of mode recording ds fs image) (is_ok (soundness mode (length ds) image)))
 unfolding agrees
 agrees-is mode recording ds fs image = refl
 

@@ -1,37 +1,26 @@
 -- What is asked of a case: the list is written as the Rust's image, which reads back as the list and is sound.
 -- Assumes nothing.
-use Rattle.std.specs.Prelude.{Bool, true, false, ◌&&◌ as and, List, [], ◌∷◌, ℕ, zero, suc, ◌+◌, ◌-◌, ◌*◌, ◌≤◌, eqb, leb, length, take, drop, replicate}
+use Rattle.std.specs.Prelude.{Bool, true, false, ◌&&◌ as and, List, [], ◌∷◌, ℕ, zero, suc, ◌+◌, ◌-◌, ◌*◌, ◌≤◌, eqb, leb, length, take, drop, replicate, Option, None, Some, option_and_then, Ok, Err, is_ok}
+use Rattle.std.specs.Str.{bytes_eq}
 use Rattle.format.specs.declared.Term.{Term}
 use Rattle.format.specs.Accepted.{kept_in}
-use Rattle.format.specs.Basics.{Outcome, ok, refused, choose, TERMINATED}
+use Rattle.format.specs.Basics.{Outcome, choose, TERMINATED}
 use Rattle.format.specs.Reading.{soundness}
 use Rattle.format.specs.SkipEntry.{has_freq_of}
 use Rattle.segment_postings.specs.declared.Answer.{Answer}
-use Rattle.segment_postings.specs.declared.Answer.TheVariants.{At, Refused}
 use Rattle.segment_postings.specs.declared.Moved.{Moved}
 use Rattle.segment_postings.specs.Cursor.{opened, advanced}
 use Rattle.serializer.specs.Writer.{listing}
 use Rattle.vectors.specs.declared.sample.Case.{Case}
-use Rattle.vectors.specs.declared.sample.Parsed.{Parsed}
-use Rattle.vectors.specs.declared.sample.Parsed.TheVariants as parsed
 use Rattle.vectors.specs.declared.Replayed.{Replayed}
-use Rattle.vectors.specs.declared.Replayed.TheVariants.{All, Malformed}
 use Rattle.vectors.specs.Sample.{short, words, case_at}
 
 -- ---- written
 
--- whether two lists of bytes are the same
-unfoldable pub same_bytes : List ℕ → List ℕ → Bool
-same_bytes [] [] = true
-same_bytes [] (b ∷ bs) = false
-same_bytes (a ∷ rest) [] = false
-same_bytes (a ∷ rest) (b ∷ bs) = and (eqb a b) (same_bytes rest bs)
-
 -- whether an outcome is this image
 unfoldable pub is_image : Outcome (List ℕ) → List ℕ → Bool
-unfolding same_bytes
-is_image (ok bs) image = same_bytes bs image
-is_image (refused n) image = false
+is_image (Ok bs) image = bytes_eq bs image
+is_image (Err why) image = false
 
 -- whether the list is written as this image, into these areas
 unfoldable pub writes_image : ℕ → Bool → (ds fs image skips postings output : List ℕ) → Bool
@@ -50,9 +39,9 @@ read_freq_of true f = f
 read_freq_of false f = 1
 
 -- whether an answer has this document and this frequency
-unfoldable pub shows_doc : Answer → ℕ → ℕ → Bool
-shows_doc (At doc freq unpacked entries) d f = and (eqb doc d) (eqb freq f)
-shows_doc (Refused n) d f = false
+unfoldable pub shows_doc : Outcome Answer → ℕ → ℕ → Bool
+shows_doc (Ok at) d f = and (eqb at.doc d) (eqb at.freq f)
+shows_doc (Err why) d f = false
 
 -- whether an answer and those of the steps after it are the documents and their frequencies, and then the end
 unfoldable pub walks : Bool → List ℕ → Term → Moved → (ds fs : List ℕ) → Bool
@@ -77,7 +66,7 @@ unfoldable pub agrees : ℕ → Bool → (ds fs image : List ℕ) → Bool
 unfolding writes_image reads_back_of
 agrees mode recording ds fs image =
     and (writes_image mode recording ds fs image (zeros 32) (zeros 4032) (zeros 8192))
-    (and (reads_back_of mode recording ds fs image) (eqb (soundness mode (length ds) image) 0))
+    (and (reads_back_of mode recording ds fs image) (is_ok (soundness mode (length ds) image)))
 
 -- the parts of a case are there
 pub record Within (bs : List ℕ) (c : Case) : Type 0 where
@@ -97,18 +86,13 @@ unfoldable pub count_differing : Bool → ℕ → ℕ
 count_differing true differ = differ
 count_differing false differ = differ + 1
 
--- on from a case
-unfoldable pub on_case : Parsed → (Case → Replayed) → Replayed
-on_case (parsed.Is c) go = go c
-on_case parsed.Malformed go = Malformed
-
 -- n cases from place p on, and no byte behind them; so many are replayed in all, and so many differed before
-unfoldable pub replay_from : List ℕ → ℕ → ℕ → ℕ → ℕ → Replayed
-unfolding on_case case_at case_agrees count_differing choose
-replay_from bs cases zero p differ = choose (eqb p (length bs)) (λ _. All cases differ) (λ _. Malformed)
+unfoldable pub replay_from : List ℕ → ℕ → ℕ → ℕ → ℕ → Option Replayed
+unfolding case_at case_agrees count_differing choose
+replay_from bs cases zero p differ = choose (eqb p (length bs)) (λ _. Some (record { cases = cases; differ = differ })) (λ _. None)
 replay_from bs cases (suc n) p differ =
-    on_case (case_at bs p) λ c. replay_from bs cases n c.end (count_differing (case_agrees bs c) differ)
+    option_and_then (λ c. replay_from bs cases n c.end (count_differing (case_agrees bs c) differ)) (case_at bs p)
 
-unfoldable pub replayed : List ℕ → Replayed
+unfoldable pub replayed : List ℕ → Option Replayed
 unfolding choose replay_from short
-replayed bs = choose (leb 2 (length bs)) (λ _. replay_from bs (short bs 0) (short bs 0) 2 0) (λ _. Malformed)
+replayed bs = choose (leb 2 (length bs)) (λ _. replay_from bs (short bs 0) (short bs 0) 2 0) (λ _. None)

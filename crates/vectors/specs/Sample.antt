@@ -1,10 +1,8 @@
 -- The sample: how many cases there are, then each case: mode, recording, count, bytes of the image, ids, frequencies, image.
 -- Assumes nothing.
-use Rattle.std.specs.Prelude.{not, ◌&&◌ as and, List, ℕ, ◌+◌, ◌*◌, eqb, leb, length, get_or}
+use Rattle.std.specs.Prelude.{not, ◌&&◌ as and, List, ℕ, ◌+◌, ◌*◌, eqb, leb, length, get_or, Option, None, Some}
 use Rattle.format.specs.Basics.{choose, tabulate, word}
 use Rattle.vectors.specs.declared.sample.Case.{Case}
-use Rattle.vectors.specs.declared.sample.Parsed.{Parsed}
-use Rattle.vectors.specs.declared.sample.Parsed.TheVariants.{Is, Malformed}
 
 -- the 16-bit number at place p, lowest byte first
 unfoldable pub short : List ℕ → ℕ → ℕ
@@ -31,8 +29,8 @@ case_of bs p =
     }
 
 -- .. where head, list and image are all there, and the list is not too long
-unfoldable pub case_at : List ℕ → ℕ → Parsed
+unfoldable pub case_at : List ℕ → ℕ → Option Case
 unfolding choose case_of
 case_at bs p =
     choose (and (leb (p + 6) (length bs)) (and (leb (case_of bs p).count 512) (leb (case_of bs p).end (length bs))))
-    (λ _. Is (case_of bs p)) (λ _. Malformed)
+    (λ _. Some (case_of bs p)) (λ _. None)

@@ -9,23 +9,22 @@
 
 #![tactic(auto)]
 
-mod input;
 mod replay;
 mod sample;
 
 ghost use Rattle.std.specs.Prelude.{◌≡◌, length};
 ghost use Rattle.vectors.specs.Replay.{replayed};
 
-use crate::input::read_full;
 use crate::replay::replay_case;
-use crate::sample::{Parsed, case_at, short_at};
+use crate::sample::{case_at, short_at};
+use input::read_full;
 use std::io;
 
-// How many cases were replayed and how many of them differ; or that the input is no sample.
+// How many cases were replayed and how many of them differ.
 #[derive(Clone, Copy)]
-pub enum Replayed {
-    All { cases: usize, differ: usize },
-    Malformed,
+pub struct Replayed {
+    pub cases: usize,
+    pub differ: usize,
 }
 
 // Names a case that differs by its place, from 0. Where it can't be written the replay goes on: the line behind the last case has its
@@ -34,20 +33,18 @@ fn tell_case(rt: &impl Print, place: usize) {
     let _ = println!(rt; "case {place} differs");
 }
 
-// Replays all cases, and tells those that differ.
-fn replay_all(rt: &impl Print, input: &[u8]) -> Replayed
+// Replays all cases, and tells those that differ; `None` where the input is no sample.
+fn replay_all(rt: &impl Print, input: &[u8]) -> Option<Replayed>
     ensures { result ≡ replayed input.now }
 {
     if input.len() < 2 {
-        return Replayed::Malformed;
+        return None;
     }
     let cases = short_at(input, 0);
     let mut at = 2;
     let mut differ = 0;
     for i in 0..cases {
-        let Parsed::Is(case) = case_at(input, at) else {
-            return Replayed::Malformed;
-        };
+        let case = case_at(input, at)?;
         if !replay_case(input, case) {
             tell_case(rt, i);
             differ += 1;
@@ -55,34 +52,28 @@ fn replay_all(rt: &impl Print, input: &[u8]) -> Replayed
         at = case.end;
     }
     if at != input.len() {
-        return Replayed::Malformed;
+        return None;
     }
-    Replayed::All { cases, differ }
+    Some(Replayed { cases, differ })
 }
 
 // Tells what came of it, in one line.
-fn tell(rt: &impl Print, replayed: Replayed) -> io::Result<()> {
+fn tell(rt: &impl Print, replayed: Option<Replayed>) -> io::Result<()> {
     match replayed {
-        Replayed::All { cases, differ } => {
+        Some(Replayed { cases, differ }) => {
             println!(rt; "{cases} images replayed, {differ} differ")
         }
-        Replayed::Malformed => println!(rt; "malformed"),
+        None => println!(rt; "malformed"),
     }
-}
-
-// Room for the longest sample, and one byte more, which shows that an input is longer.
-fn input_buffer() -> [u8; 65536]
-    ensures { length result ≡ 65536 }
-{
-    [0; 65536]
 }
 
 // An input that fills the buffer may go on behind it, and is no sample. A read that fails counts as the end of the input.
 fn main(rt: HostRuntime) -> io::Result<()> {
-    let mut input = input_buffer();
+    // Room for the longest sample, and one byte more, which shows that an input is longer.
+    let mut input = [0u8; 65536];
     let n = read_full(&mut rt.stdin(), &mut input);
     if n == 65536 {
-        return tell(&rt, Replayed::Malformed);
+        return tell(&rt, None);
     }
     tell(&rt, replay_all(&rt, &input[..n]))
 }

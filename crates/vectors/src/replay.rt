@@ -4,14 +4,14 @@ ghost use Rattle.std.specs.Prelude.{◌≡◌, ◌≤◌, length};
 ghost use Rattle.vectors.specs.Replay.{zeros, read_freq_of, shows_doc, reads_back_of, writes_image, agrees, case_agrees, Within};
 
 use crate::sample::{Case, words_at};
-use check::same;
-use format::{TERMINATED, Term};
+use format::{Refusal, TERMINATED, Term};
 use segment_postings::validate::validate;
-use segment_postings::{advance, open};
+use segment_postings::{Answer, advance, open};
 use serializer::write_list;
 use skip::{has_freq, record_option};
 
 // The frequency that a reader is answered: 1 where it isn't kept.
+#[tactic(auto, unfolding(crate::specs::Replay::read_freq_of))]
 fn read_freq(kept: bool, freq: u32) -> u32
     ensures { result ≡ read_freq_of kept freq }
 {
@@ -19,21 +19,18 @@ fn read_freq(kept: bool, freq: u32) -> u32
 }
 
 // Whether an answer has this document and this frequency.
-fn shows(answer: segment_postings::Answer, doc: u32, freq: u32) -> bool
+#[tactic(auto, unfolding(crate::specs::Replay::shows_doc))]
+fn shows(answer: Result<Answer, Refusal>, doc: u32, freq: u32) -> bool
     ensures { result ≡ shows_doc answer doc freq }
 {
     match answer {
-        segment_postings::Answer::At {
-            doc: d,
-            freq: f,
-            unpacked: _,
-            entries: _,
-        } => d == doc && f == freq,
-        segment_postings::Answer::Refused(_) => false,
+        Ok(at) => at.doc == doc && at.freq == freq,
+        Err(_) => false,
     }
 }
 
-// Whether a walk by steps over an image answers the list's documents, their frequencies, and then the end.
+// Whether a walk by steps over an image answers the list's documents, their frequencies, and then the end. A list goes from function to
+// function as `write_list` takes it, mode, recording and two slices.
 fn reads_back(mode: u8, recording: bool, ids: &[u32], freqs: &[u32], image: &[u8]) -> bool
     requires { (length ids.now ≤ 512) × (length ids.now ≡ length freqs.now) }
     ensures { result ≡ reads_back_of mode recording ids.now freqs.now image.now }
@@ -45,15 +42,13 @@ fn reads_back(mode: u8, recording: bool, ids: &[u32], freqs: &[u32], image: &[u8
         count: ids.len() as u32,
     };
     let mut moved = open(image, term);
-    for i in 0..ids.len() {
-        let answer = moved.answer;
-        if !shows(answer, ids[i], read_freq(kept, freqs[i])) {
+    for (&id, &freq) in ids.iter().zip(freqs) {
+        if !shows(moved.answer, id, read_freq(kept, freq)) {
             return false;
         }
         moved = advance(moved.cursor, image, term);
     }
-    let answer = moved.answer;
-    shows(answer, TERMINATED, 0)
+    shows(moved.answer, TERMINATED, 0)
 }
 
 // Whether the list is written as this image, into areas that are lent.
@@ -70,14 +65,14 @@ fn writes_into(
     ensures { result ≡ writes_image mode recording ids.now freqs.now image.now
         skips.old postings.old output.old }
 {
-    let answer = write_list(mode, recording, ids, freqs, skips, postings, output);
-    let serializer::Written::Bytes(n) = answer else {
-        return false;
-    };
-    same(&output[..n], image)
+    match write_list(mode, recording, ids, freqs, skips, postings, output) {
+        Ok(n) => &output[..n] == image,
+        Err(_) => false,
+    }
 }
 
 // Whether the list is written as this image. The areas have room for any list of 512 documents.
+#[tactic(auto, unfolding(crate::specs::Replay::zeros))]
 fn writes(mode: u8, recording: bool, ids: &[u32], freqs: &[u32], image: &[u8]) -> bool
     ensures { result ≡ writes_image mode recording ids.now freqs.now image.now (zeros 32) (zeros 4032) (zeros 8192) }
 {
@@ -97,17 +92,14 @@ fn writes(mode: u8, recording: bool, ids: &[u32], freqs: &[u32], image: &[u8]) -
 }
 
 // Whether all agrees: the list is written as this image, which reads back as the list and is sound.
+#[tactic(auto, unfolding(crate::specs::Replay::agrees))]
 fn replay_list(mode: u8, recording: bool, ids: &[u32], freqs: &[u32], image: &[u8]) -> bool
     requires { (length ids.now ≤ 512) × (length ids.now ≡ length freqs.now) }
     ensures { result ≡ agrees mode recording ids.now freqs.now image.now }
 {
-    if !writes(mode, recording, ids, freqs, image) {
-        return false;
-    }
-    if !reads_back(mode, recording, ids, freqs, image) {
-        return false;
-    }
-    validate(image, mode, ids.len() as u32) == 0
+    writes(mode, recording, ids, freqs, image)
+        && reads_back(mode, recording, ids, freqs, image)
+        && validate(image, mode, ids.len() as u32).is_ok()
 }
 
 // Replays a case of the sample.

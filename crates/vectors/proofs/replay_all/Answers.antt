@@ -16,16 +16,17 @@ loop-i-init g c = record {
   rest = replay_begins _ _ (omega arith) c.short_at-cases.ensures.0;
 }
 
-pub returns-in_default : goal.returns-in_default
-returns-in_default g c = sym (c.loop-i.invariant.rest ∙ replay_stop _ _ _ _ _ (omega arith) (sym c.in_default.ensures))
+pub returns-in_err-case : goal.returns-in_err-case
+returns-in_err-case g c =
+    rw c.from_residual.ensures (sym (c.loop-i.invariant.rest ∙ replay_stop _ _ _ _ _ (omega arith) (sym c.in_err-case.ensures)))
 
 pub replay_case-requires : goal.replay_case-requires
-replay_case-requires g c = case_within _ _ _ (sym c.in-Is.ensures)
+replay_case-requires g c = case_within _ _ _ (sym c.in_ok-case.ensures)
 
 pub loop-i-preserved : goal.loop-i-preserved
 loop-i-preserved g c =
     let cases = c.short_at-cases.result in
-    let counted : c.if-not-replay_case.differ ≡ count_differing (case_agrees c.args.input.now c.in-Is.case) c.loop-i.differ =
+    let counted : c.if-not-replay_case.differ ≡ count_differing (case_agrees c.args.input.now c.in_ok-case.case) c.loop-i.differ =
     elim c.if-not-replay_case.branch [
       | then-not-replay_case w ↦ w.differ-is ∙ sym (count-more _ _ (sym w.if-not-replay_case.ensures))
       | else-not-replay_case w ↦ w.differ-is ∙ sym (count_same _ _ (sym w.if-not-replay_case.ensures))
@@ -33,9 +34,9 @@ loop-i-preserved g c =
     let left : cases - c.loop-i.i - 1 ≡ cases - (c.loop-i.i + 1) = omega arith in
     record {
       within = omega arith;
-      there = (case_within _ _ _ (sym c.in-Is.ensures)).end_there;
+      there = (case_within _ _ _ (sym c.in_ok-case.ensures)).end_there;
       few = elim c.if-not-replay_case.branch [ then-not-replay_case w ↦ omega arith | else-not-replay_case w ↦ omega arith ];
-      rest = c.loop-i.invariant.rest ∙ replay_on _ _ _ _ _ _ (omega arith) (sym c.in-Is.ensures) ∙ rw (counted, left);
+      rest = c.loop-i.invariant.rest ∙ replay_on _ _ _ _ _ _ (omega arith) (sym c.in_ok-case.ensures) ∙ rw (counted, left);
     }
 
 pub returns-then-at-input : goal.returns-then-at-input

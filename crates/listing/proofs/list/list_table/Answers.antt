@@ -10,21 +10,21 @@ pub returns-then-text-gt65536 : goal.returns-then-text-gt65536
 returns-then-text-gt65536 c = rw (too_long _ c.if-text-gt65536.true) c.put_refusal.ensures
 
 pub slice_bounds-ids-end : goal.slice_bounds-ids-end
-slice_bounds-ids-end c = omega (arith, rows-within _ c.read_table.ensures _ c.in-Rows.is)
+slice_bounds-ids-end c = omega (arith, rows-within _ c.read_table.ensures _ c.in-Some.is)
 
 pub slice_bounds-list_columns-end : goal.slice_bounds-list_columns-end
-slice_bounds-list_columns-end c = sym (length-take-le _ _ (omega (arith, rows-within _ c.read_table.ensures _ c.in-Rows.is)))
+slice_bounds-list_columns-end c = sym (length-take-le _ _ (omega (arith, rows-within _ c.read_table.ensures _ c.in-Some.is)))
 
 pub slice_bounds-freqs-end : goal.slice_bounds-freqs-end
-slice_bounds-freqs-end c = omega (arith, rows-within _ c.read_table.ensures _ c.in-Rows.is)
+slice_bounds-freqs-end c = omega (arith, rows-within _ c.read_table.ensures _ c.in-Some.is)
 
-pub slice_bounds-list_columns-end-in-Rows : goal.slice_bounds-list_columns-end-in-Rows
-slice_bounds-list_columns-end-in-Rows c =
-    sym (length-take-le _ _ (omega (arith, rows-within _ c.read_table.ensures _ c.in-Rows.is)))
+pub slice_bounds-list_columns-end-in-Some : goal.slice_bounds-list_columns-end-in-Some
+slice_bounds-list_columns-end-in-Some c =
+    sym (length-take-le _ _ (omega (arith, rows-within _ c.read_table.ensures _ c.in-Some.is)))
 
-pub returns-in-Rows : goal.returns-in-Rows
-returns-in-Rows c = rw (listed_rows _ c.read_table.ensures _ c.if-text-gt65536.false c.in-Rows.is) c.list_columns.ensures
+pub returns-in-Some : goal.returns-in-Some
+returns-in-Some c = rw (listed_rows _ c.read_table.ensures _ c.if-text-gt65536.false c.in-Some.is) c.list_columns.ensures
 
-pub returns-in-Malformed : goal.returns-in-Malformed
-returns-in-Malformed c =
-    rw (listed_none _ c.read_table.ensures c.if-text-gt65536.false c.in-Malformed.is) c.put_refusal-in-Malformed.ensures
+pub returns-in-None : goal.returns-in-None
+returns-in-None c =
+    rw (listed_none _ c.read_table.ensures c.if-text-gt65536.false c.in-None.is) c.put_refusal-in-None.ensures

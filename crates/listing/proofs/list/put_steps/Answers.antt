@@ -13,9 +13,9 @@ loop-init c =
     let first = c.put_answer-next.ensures in record {
       counted = omega arith;
       walked =
-          rw c.open-opened.ensures
+          rw c.open-moved.ensures
           (walk_begins _ _ c.requires.0 (omega arith)
-          (omega (arith, first.behind, puts-length first, line-most (shown c.open-opened.result.answer), c.requires.1)));
+          (omega (arith, first.behind, puts-length first, line-most (shown c.open-moved.result.answer), c.requires.1)));
     }
 
 pub loop-preserved : goal.loop-preserved
@@ -28,5 +28,5 @@ loop-preserved c = record {
 
 pub returns : goal.returns
 returns c =
-    let first = rw c.open-opened.ensures at c.put_answer-next.ensures in
+    let first = rw c.open-moved.ensures at c.put_answer-next.ensures in
     rw (← walk_first _ _ c.requires.0) (puts_then first (walk_ends _ _ c.loop.invariant.walked (omega arith)))

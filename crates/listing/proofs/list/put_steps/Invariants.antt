@@ -6,6 +6,6 @@ use Rattle.listing.proofs.list.put_steps.Given as goal
 
 abbrev pub invariant-loop : goal.invariant-loop
 invariant-loop l = record {
-  counted : l.counter ≤ l.count;
-  walked : Walked l.term l.image l.initial.next (l.count - l.counter) l.next l.initial.output l.output l.cursor;
+  counted : l.counter ≤ l.term.count;
+  walked : Walked l.term l.image l.initial.next (l.term.count - l.counter) l.next l.initial.output l.output l.moved.cursor;
 }

@@ -1,20 +1,28 @@
--- `listing::table::find` meets its contract: where the byte at place i is the one looked for the search ends there, any other byte is passed,
--- and behind the last one there is none.
--- Assumes nothing.
-use Rattle.std.proofs.Common.{◌≡◌, length, arith}
-use Rattle.listing.proofs.Lines.{found, passed, found_none}
+-- `listing::table::find` meets its contract: the library's search answers the place of the first such byte, or that there is none.
+use Rattle.std.proofs.Common.{◌≡◌, ◌-◌, ◌∙◌, eqb, length, take, drop, arith, rules, tests}
+use Rattle.std.proofs.Math.ListN.{length-drop}
+use Rattle.std.proofs.Math.Seq.{take_all}
+use Rattle.std.proofs.lemmas.Iterator.{YieldsList-from_slice}
+use Rattle.std.proofs.lemmas.Iterator.Search.{position_from_yields_List}
+use Rattle.listing.proofs.Lines.{found, found_none, up_to-most}
 use Rattle.listing.proofs.table.find.Goals as goal
 
-pub returns-then-text-i : goal.returns-then-text-i
-returns-then-text-i c = (omega (arith, found c.args.byte c.args.text.now c.loop-i.i (omega arith) c.if-text-i.true), omega arith)
+pub returns-in-Some : goal.returns-in-Some
+returns-in-Some c =
+    let rest = drop c.args.at c.args.text.now in
+    let whole : take (length c.args.text.now - c.args.at) rest ≡ rest = take_all _ rest (rw length-drop (omega arith)) in
+    let told =
+    position_from_yields_List (λ x. eqb x c.args.byte) _ _ c.position.result c.position.ensures.ran (YieldsList-from_slice rest (c.iter.ensures.rest ∙ whole))
+    (λ x b q k. search (rules, tests)) in
+    let at = found c.args.byte rest told c.in-Some.passed c.in-Some.is in
+    (omega arith, omega (arith, up_to-most c.args.byte rest, length-drop c.args.at c.args.text.now))
 
-pub loop-i-preserved : goal.loop-i-preserved
-loop-i-preserved c = record {
-  within = omega arith;
-  to_go = omega (arith, passed c.args.byte c.args.text.now c.loop-i.i (omega arith) c.if-text-i.false);
-}
-
-pub returns : goal.returns
-returns c =
-    let all : c.loop-i.i ≡ length c.args.text.now = omega arith in
-    (omega (arith, rw (← all) at (found_none c.args.byte c.args.text.now)), omega arith)
+pub returns-in-None : goal.returns-in-None
+returns-in-None c =
+    let rest = drop c.args.at c.args.text.now in
+    let whole : take (length c.args.text.now - c.args.at) rest ≡ rest = take_all _ rest (rw length-drop (omega arith)) in
+    let told =
+    position_from_yields_List (λ x. eqb x c.args.byte) _ _ c.position.result c.position.ensures.ran (YieldsList-from_slice rest (c.iter.ensures.rest ∙ whole))
+    (λ x b q k. search (rules, tests)) in
+    let none = found_none c.args.byte rest told c.in-None.is in
+    (omega (arith, length-drop c.args.at c.args.text.now), omega arith)

@@ -1,38 +1,47 @@
--- `listing::table::read_number` meets its contract: a byte that is no digit ends the number, as does a value that has reached 2 ^ 32, and a digit
+-- `listing::table::read_number` meets its contract: a byte that is no digit ends the number, as does a value that would reach 2 ^ 32, and a digit
 -- is one turn of the definition.
 -- Assumes nothing.
-use Rattle.std.proofs.Common.{◌+◌, ◌∙◌, sym, drop, arith}
-use Rattle.listing.proofs.Numbers.{too_large, ends, stops_low, stops_high, goes_on, number-none, number-some}
+use Rattle.std.proofs.Common.{◌≡◌, ◌+◌, ◌-◌, ◌*◌, ◌∙◌, sym, length, get_or, arith}
+use Rattle.listing.proofs.Numbers.{ends, stops, goes_on, overflows, number-none, number-some}
 use Rattle.listing.proofs.table.read_number.Goals as goal
 
-pub returns-then-text-eq0 : goal.returns-then-text-eq0
-returns-then-text-eq0 c = sym (number-none _ c.if-text-eq0.true)
+pub returns-then-is_empty : goal.returns-then-is_empty
+returns-then-is_empty c = let none : length c.args.text.now ≡ 0 = grind arith in sym (number-none _ none)
 
-pub loop-i-init : goal.loop-i-init
-loop-i-init c = record { within = omega arith; fits = omega arith; reads_on = number-some _ c.if-text-eq0.false }
+pub loop-byte-init : goal.loop-byte-init
+loop-byte-init c = let some : length c.args.text.now ≡ 0 → ⊥ = grind arith in record { fits = omega arith; reads_on = number-some _ some }
 
-pub returns-then-digit-lt48 : goal.returns-then-digit-lt48
-returns-then-digit-lt48 c =
-    sym (c.loop-i.invariant.reads_on ∙ stops_low c.args.text.now c.loop-i.i c.loop-i.value (omega arith) (omega (arith, c.wide-digit.ensures)))
+pub returns-then-not-is_ascii_digit : goal.returns-then-not-is_ascii_digit
+returns-then-not-is_ascii_digit c =
+    sym (c.loop-byte.invariant.reads_on
+    ∙ stops c.args.text.now c.loop-byte.byte-index c.loop-byte.value (omega arith) (sym c.is_ascii_digit.ensures.value ∙ c.if-not-is_ascii_digit.true))
 
-pub returns-then-digit-gt57 : goal.returns-then-digit-gt57
-returns-then-digit-gt57 c =
-    sym (c.loop-i.invariant.reads_on ∙ stops_high c.args.text.now c.loop-i.i c.loop-i.value (omega arith) (omega (arith, c.wide-digit.ensures)))
+pub returns-in_err-checked_mul : goal.returns-in_err-checked_mul
+returns-in_err-checked_mul c =
+    rw c.from_residual.ensures
+    (sym (c.loop-byte.invariant.reads_on
+    ∙ overflows c.args.text.now c.loop-byte.byte-index c.loop-byte.value (omega arith)
+    (sym c.is_ascii_digit.ensures.value ∙ c.if-not-is_ascii_digit.false)
+    (omega (arith, c.in_err-checked_mul.ensures))))
 
-pub returns-then-value-gt4294967295 : goal.returns-then-value-gt4294967295
-returns-then-value-gt4294967295 c =
-    sym (c.loop-i.invariant.reads_on
-    ∙ goes_on c.args.text.now c.loop-i.i c.loop-i.value (omega arith) (omega arith) (omega arith)
-    ∙ too_large _ (drop (c.loop-i.i + 1) c.args.text.now) (omega arith))
+pub returns-in_err-value : goal.returns-in_err-value
+returns-in_err-value c =
+    rw c.from_residual-in_err-value.ensures
+    (sym (c.loop-byte.invariant.reads_on
+    ∙ overflows c.args.text.now c.loop-byte.byte-index c.loop-byte.value (omega arith)
+    (sym c.is_ascii_digit.ensures.value ∙ c.if-not-is_ascii_digit.false)
+    (omega (arith, c.in_ok-checked_mul.ensures, c.in_err-value.ensures))))
 
-pub loop-i-preserved : goal.loop-i-preserved
-loop-i-preserved c = record {
-  within = omega arith;
-  fits = omega arith;
-  reads_on =
-      c.loop-i.invariant.reads_on
-      ∙ rw c.wide-digit.ensures (goes_on c.args.text.now c.loop-i.i c.loop-i.value (omega arith) (omega arith) (omega arith));
-}
+pub loop-byte-preserved : goal.loop-byte-preserved
+loop-byte-preserved c =
+    let l = c.loop-byte in
+    let next : 10 * l.value + (get_or c.args.text.now l.byte-index 0 - 48) ≡ c.in_ok-value.value =
+    omega (arith, c.in_ok-checked_mul.ensures, c.in_ok-value.ensures) in
+    let digit = sym c.is_ascii_digit.ensures.value ∙ c.if-not-is_ascii_digit.false in
+    record {
+      fits = omega (arith, c.in_ok-value.ensures);
+      reads_on = l.invariant.reads_on ∙ rw next at (goes_on c.args.text.now l.byte-index l.value (omega arith) digit);
+    }
 
 pub returns : goal.returns
-returns c = sym (c.loop-i.invariant.reads_on ∙ ends _ c.loop-i.i c.loop-i.value (omega arith) c.loop-i.invariant.fits)
+returns c = sym (c.loop-byte.invariant.reads_on ∙ ends _ c.loop-byte.byte-index c.loop-byte.value (omega arith) c.loop-byte.invariant.fits)

@@ -15,4 +15,4 @@ put_number-requires c =
     field_room _ _ 21 c.put_number-last.ensures (omega (arith, field_room _ _ 42 c.put_number-next.ensures (omega arith)))
 
 pub returns : goal.returns
-returns c = puts-line _ c.in-At.is c.put_number-next.ensures c.put_number-last.ensures c.put_number.ensures
+returns c = puts-line _ c.in-Ok.is c.put_number-next.ensures c.put_number-last.ensures c.put_number.ensures

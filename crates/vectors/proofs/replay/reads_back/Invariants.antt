@@ -1,10 +1,15 @@
 -- The walk beside the whole list is the walk beside the documents still to come from the present cursor.
-use Rattle.std.proofs.Common.{◌≡◌, ◌≤◌, length, drop}
+use Rattle.std.proofs.Common.{◌≡◌, length}
+use Rattle.std.specs.Iterator.Adapters.{zip_first, zip_second}
+use Rattle.std.specs.Slice.Iter.{iter_rest}
 use Rattle.vectors.specs.Replay.{walks}
 use Rattle.vectors.proofs.replay.reads_back.Given as goal
 
-abbrev pub invariant-loop-i : goal.invariant-loop-i
-invariant-loop-i l = record {
-  within : l.i ≤ length l.ids;
-  so_far : walks l.kept l.image l.term l.initial.moved l.ids l.freqs ≡ walks l.kept l.image l.term l.moved (drop l.i l.ids) (drop l.i l.freqs);
-}
+abbrev pub invariant-loop-id : goal.invariant-loop-id
+invariant-loop-id l =
+    let ds = iter_rest (zip_first l.id-iterator) in
+    let fs = iter_rest (zip_second l.id-iterator) in
+    record {
+      as_many : length ds ≡ length fs;
+      so_far : walks l.kept l.image l.term l.initial.moved l.ids l.freqs ≡ walks l.kept l.image l.term l.moved ds fs;
+    }

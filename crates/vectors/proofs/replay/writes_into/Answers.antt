@@ -1,23 +1,22 @@
 -- `vectors::replay::writes_into` meets its contract: a refusal is no image, and else the bytes written are compared.
-use Rattle.std.proofs.Common.{sym}
+use Rattle.std.proofs.Common.{sym, ◌∙◌}
 use Rattle.std.proofs.Math.Seq.{length-take-le}
 use Rattle.vectors.proofs.Images.{image-refused, image-within, image_compared}
 use Rattle.vectors.proofs.replay.writes_into.Goals as goal
 
-pub returns-in_default : goal.returns-in_default
-returns-in_default c =
-    sym (image-refused c.args.mode c.args.recording _ _ c.args.image.now _ _ _ _ _ _ _ _ c.write_list-answer.ensures c.in_default.is)
+pub slice_bounds-eq-end : goal.slice_bounds-eq-end
+slice_bounds-eq-end c =
+    image-within c.args.mode c.args.recording _ _ c.args.image.now _ _ _ _ _ _ _ c.write_list.ensures _ c.in-Ok.is
 
-pub slice_bounds-same-end : goal.slice_bounds-same-end
-slice_bounds-same-end c =
-    image-within c.args.mode c.args.recording _ _ c.args.image.now _ _ _ _ _ _ _ _ c.write_list-answer.ensures c.in-Bytes.is
-
-pub slice_bounds-same-end-2 : goal.slice_bounds-same-end-2
-slice_bounds-same-end-2 c =
+pub slice_bounds-eq-end-in-Ok : goal.slice_bounds-eq-end-in-Ok
+slice_bounds-eq-end-in-Ok c =
     sym (length-take-le _ _
-    (image-within c.args.mode c.args.recording _ _ c.args.image.now _ _ _ _ _ _ _ _ c.write_list-answer.ensures c.in-Bytes.is))
+    (image-within c.args.mode c.args.recording _ _ c.args.image.now _ _ _ _ _ _ _ c.write_list.ensures _ c.in-Ok.is))
 
-pub returns : goal.returns
-returns c =
-    image_compared c.args.mode c.args.recording _ _ c.args.image.now _ _ _ _ _ _ _ _ c.write_list-answer.ensures c.in-Bytes.is
-    c.same.result c.same.ensures.0 c.same.ensures.1
+pub returns-in-Ok : goal.returns-in-Ok
+returns-in-Ok c =
+    c.eq.ensures ∙ image_compared c.args.mode c.args.recording _ _ c.args.image.now _ _ _ _ _ _ _ c.write_list.ensures _ c.in-Ok.is
+
+pub returns-in-Err : goal.returns-in-Err
+returns-in-Err c =
+    sym (image-refused c.args.mode c.args.recording _ _ c.args.image.now _ _ _ _ _ _ _ c.write_list.ensures _ c.in-Err.is)

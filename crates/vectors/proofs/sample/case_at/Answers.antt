@@ -1,6 +1,6 @@
 -- `vectors::sample::case_at` meets its contract: the questions are asked in their order.
 use Rattle.std.proofs.Common.{sym, ap, ◌∙◌, arith}
-use Rattle.vectors.specs.declared.sample.Parsed.TheVariants.{Is}
+use Rattle.std.specs.Prelude.{Some}
 use Rattle.vectors.specs.Sample.{case_of}
 use Rattle.vectors.proofs.Cases.{no_head, too_long, cut_off, all_there, case-with}
 use Rattle.vectors.proofs.sample.case_at.Goals as goal
@@ -19,5 +19,5 @@ returns-then-input-end c = sym (cut_off _ _ (omega arith) (omega arith) (omega a
 pub returns : goal.returns
 unfolding case_of
 returns c =
-    ap Is (case-with c.args.input.now c.args.at _ _ c.short_at-count.ensures.0 c.short_at.ensures.0)
+    ap Some (case-with c.args.input.now c.args.at _ _ c.short_at-count.ensures.0 c.short_at.ensures.0)
     ∙ sym (all_there _ _ (omega arith) (omega arith) (omega arith))

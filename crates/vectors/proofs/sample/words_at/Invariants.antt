@@ -1,5 +1,5 @@
--- The first `i` places hold the first `i` numbers; the measure is the numbers left.
-use Rattle.std.proofs.Common.{◌≡◌, ◌-◌, ◌≤◌, length, take}
+-- The first `i` places hold the first `i` numbers.
+use Rattle.std.proofs.Common.{◌≡◌, ◌≤◌, length, take}
 use Rattle.vectors.specs.Sample.{words}
 use Rattle.vectors.proofs.sample.words_at.Given as goal
 
@@ -9,6 +9,3 @@ invariant-loop-i l = record {
   room : length l.values ≡ 512;
   so_far : take l.i l.values ≡ words l.input l.at l.i;
 }
-
-abbrev pub decreases-loop-i : goal.decreases-loop-i
-decreases-loop-i l = l.count - l.i
