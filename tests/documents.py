@@ -13,8 +13,8 @@ ROOT = pathlib.Path(__file__).resolve().parent.parent
 PAGES = [ROOT / "README.md", *sorted((ROOT / "docs").glob("*.md"))]
 # Names that stand for many files, and files beside the repository (the Rust, the kit's) or made by a command.
 OTHERS = re.compile(r"\*|NAME|MODULE|/F/|^\.\./shared|^target/|^port\.py$|(?<!examples/first)\.rs$")
-# What CHANGES.md says of earlier landings, and PORT.md of what moved, may name files that are gone.
-FREE = {"CHANGES.md", "PORT.md"}
+# What CHANGES.md says of earlier landings, and PORT.md and DESIGN-PASS.md of what moved, may name files that are gone.
+FREE = {"CHANGES.md", "PORT.md", "DESIGN-PASS.md"}
 
 folders = {folder: folder.name for folder in ROOT.glob("tests/edits/*")} | {folder: folder.parent.name for folder in ROOT.glob("crates/*/must-fail")}
 edits = {edit.stem for folder in folders for edit in folder.glob("*.edit")}
