@@ -1,9 +1,9 @@
 // What several crates do with bytes and 32-bit numbers: whether a run of bytes lies within others, bytes put into an area that a
-// caller lends, numbers in four bytes, and differences that stop at 0. Named for the Rust's crate of such helpers.
+// caller lends, and numbers in four bytes. Named for the Rust's crate of such helpers.
 
 #![tactic(auto)]
 
-ghost use Rattle.std.specs.Prelude.{◌≡◌, ◌+◌, ◌-◌, ◌*◌, leb};
+ghost use Rattle.std.specs.Prelude.{◌≡◌, ◌+◌, ◌*◌, leb};
 ghost use Rattle.format.specs.Basics.{put_at, next_at, le32};
 
 // Whether `size` bytes from place `at` on lie within `len`; no sum of the two is made, which might wrap.
@@ -40,11 +40,4 @@ pub fn u32_to_le_bytes(x: u32) -> [u8; 4]
     ensures { result ≡ le32 x }
 {
     x.to_le_bytes()
-}
-
-// a - b, 0 where b is larger.
-pub fn difference(a: u32, b: u64) -> u32
-    ensures { result ≡ a - b }
-{
-    (a as u64).saturating_sub(b) as u32
 }
