@@ -53,15 +53,15 @@ fn kinds_known(calls: &[u64]) -> bool
     calls.iter().all(|&code| decode(code).is_some())
 }
 
-// Makes one call: by value, or on a lent cursor.
+// Makes one call: by value, or on a lent cursor. Each arm returns: as the value of the `match` a cursor would be copied once more, by half.
 fn make_call(cursor: SegmentPostings, image: &[u8], term: Term, call: Coded) -> Moved
     ensures { result ≡ called cursor image.now term (meant call) }
 {
     match call {
-        Coded::Advance => advance(cursor, image, term),
-        Coded::Seek(target) => seek(cursor, image, term, target),
-        Coded::AdvanceByLending => advance_by_lending(cursor, image, term),
-        Coded::SeekByLending(target) => seek_by_lending(cursor, image, term, target),
+        Coded::Advance => return advance(cursor, image, term),
+        Coded::Seek(target) => return seek(cursor, image, term, target),
+        Coded::AdvanceByLending => return advance_by_lending(cursor, image, term),
+        Coded::SeekByLending(target) => return seek_by_lending(cursor, image, term, target),
     }
 }
 
