@@ -13,7 +13,7 @@ pub const TERMINATED: u32 = 2147483647;
 pub const COMPRESSION_BLOCK_SIZE: usize = 128;
 
 // What a list's blocks and skip entries hold.
-#[derive(Clone, Copy)]
+#[derive(Clone, Copy, Debug, PartialEq, Eq)]
 pub enum IndexRecordOption {
     // Documents alone.
     Basic,
@@ -22,7 +22,7 @@ pub enum IndexRecordOption {
 }
 
 // What a skip entry says of its block.
-#[derive(Clone, Copy)]
+#[derive(Clone, Copy, Debug, PartialEq, Eq)]
 pub struct BlockInfo {
     pub last_doc: u32,
     pub doc_width: u8,
@@ -32,7 +32,7 @@ pub struct BlockInfo {
 
 // What is known of an image beside its bytes: its recorded mode and its count; and the mode that a reader requests. Modes are numbers, and
 // no enum, since a caller may hand in any: question 1 refuses those that name nothing.
-#[derive(Clone, Copy)]
+#[derive(Clone, Copy, Debug, PartialEq, Eq)]
 pub struct Term {
     pub mode: u8,
     pub requested: u8,
@@ -40,7 +40,7 @@ pub struct Term {
 }
 
 // Where the parts of an image begin, and what its blocks and entries hold.
-#[derive(Clone, Copy)]
+#[derive(Clone, Copy, Debug, PartialEq, Eq)]
 pub struct Layout {
     pub option: IndexRecordOption,
     pub skips: usize,

@@ -52,7 +52,7 @@ impl fmt::Display for Refusal {
             Refusal::IdTooLarge => "document above 2147483646",
             Refusal::IdNotRising => "document not above the one before it",
             Refusal::FreqZero => "frequency 0",
-            Refusal::CountMismatch => "another count than announced",
+            Refusal::CountMismatch => "another count than announced, or slices of two lengths",
             Refusal::NoRoom => "no room in what was lent",
             Refusal::StateBroken => "numbers of a lent state out of bounds",
         })

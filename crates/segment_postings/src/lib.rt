@@ -24,7 +24,7 @@ use format::Refusal;
 
 // A position in a list: the block that holds it, unpacked, and the place in that block. Places behind the last document of a list
 // hold TERMINATED and frequency 1. The image, its mode and its count are lent to each call and never kept.
-#[derive(Clone, Copy)]
+#[derive(Clone, Copy, Debug, PartialEq, Eq)]
 pub struct SegmentPostings {
     pub docs: [u32; 128],
     // Between the arrays: calls by value were measured faster so.
@@ -33,7 +33,7 @@ pub struct SegmentPostings {
 }
 
 // A cursor without its arrays: what goes through the functions that are lent them.
-#[derive(Clone, Copy)]
+#[derive(Clone, Copy, Debug, PartialEq, Eq)]
 pub struct Held {
     pub place: usize,
     pub block: usize,
@@ -47,7 +47,7 @@ pub struct Held {
 }
 
 // What a call answers: the document and the frequency at the position, blocks unpacked and entries read.
-#[derive(Clone, Copy)]
+#[derive(Clone, Copy, Debug, PartialEq, Eq)]
 pub struct Answer {
     pub doc: u32,
     pub freq: u32,
@@ -56,7 +56,7 @@ pub struct Answer {
 }
 
 // A call's answer, with the cursor after it, which a refusal leaves as it was.
-#[derive(Clone, Copy)]
+#[derive(Clone, Copy, Debug, PartialEq, Eq)]
 pub struct Moved {
     pub answer: Result<Answer, Refusal>,
     pub cursor: SegmentPostings,
