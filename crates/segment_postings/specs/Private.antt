@@ -6,7 +6,7 @@ use Rattle.format.specs.declared.Term.{Term}
 use Rattle.format.specs.Basics.{Outcome, and_then, TERMINATED}
 use Rattle.format.specs.Model.{Call, step, seek}
 use Rattle.format.specs.SkipEntry.{block_size_of}
-use Rattle.format.specs.Layout.{layout, full_blocks_of}
+use Rattle.format.specs.Layout.{full_blocks_of}
 use Rattle.format.specs.Reading.{Block, kept_by}
 use Rattle.segment_postings.specs.declared.Held.{Held}
 use Rattle.segment_postings.specs.declared.SegmentPostings.{SegmentPostings}
@@ -22,10 +22,9 @@ use Rattle.segment_postings.specs.Calls.{cursor_of, reached}
 
 -- ---- the block that is found
 
--- what a search starts from: the image's own layout, so that the entry of every full block lies within the skip bytes; a block, at
--- most the tail; where its bytes begin; and entries read, at most one for each block before it, so that no count wraps
-pub record FindsFrom (t : Term) (l : Layout) (bs : List ℕ) (s : Start) : Type 0 where
-  pub laid_out : layout t bs ≡ Ok l
+-- what a search starts from: a block, at most the tail; where its bytes begin; and entries read, at most one for each block before it,
+-- so that no count wraps
+pub record FindsFrom (t : Term) (bs : List ℕ) (s : Start) : Type 0 where
   pub block_most_is : s.block ≤ full_blocks_of t
   pub inside : s.at ≤ length bs
   pub entries_most : s.entries ≤ s.block

@@ -2,7 +2,6 @@
 -- Assumes nothing.
 use Rattle.format.specs.declared.refusal.Refusal.TheVariants.{NoRoom}
 use Rattle.std.specs.Prelude.{◌≡◌, ℕ, ◌≤◌, ◌&&◌ as and, List, length, nat_le, Ok}
-use Rattle.format.specs.declared.Layout.{Layout}
 use Rattle.format.specs.declared.Term.{Term}
 use Rattle.format.specs.Basics.{Outcome, and_then, ask, put_at, or_before}
 use Rattle.format.specs.Layout.{layout}
@@ -24,8 +23,7 @@ pub record WholeRead (o : Outcome (List Block)) (docs freqs docs' freqs' : List 
   pub freqs_after : freqs' ≡ or_before (λ blocks. put_at 0 (freqs_of blocks) freqs) o freqs
 
 -- what the walk starts from: an image that is sound in the requested mode, and room for all that it reads
-pub record Walks (t : Term) (l : Layout) (bs : List ℕ) (docs_room freqs_room : ℕ) : Type 0 where
-  pub laid_out : layout t bs ≡ Ok l
+pub record Walks (t : Term) (bs : List ℕ) (docs_room freqs_room : ℕ) : Type 0 where
   pub sound : (reading t bs).verdict ≡ Ok tt
   pub docs_fit : t.count ≤ docs_room
   pub freqs_fit : t.count ≤ freqs_room

@@ -7,11 +7,10 @@ ghost use Rattle.segment_postings.specs.Cursor.{position, in_bounds_of, answer_a
 ghost use Rattle.segment_postings.specs.Calls.{cursor_of, Reaches};
 ghost use Rattle.segment_postings.specs.Private.{FoundThere, FindsFrom, loaded, Lands};
 
-use crate::find::{Found, Start, find_block};
-use crate::layout::{full_blocks, lay_out};
-use crate::load::load_block;
+use crate::find::{Found, Start};
+use crate::layout::{LaidImage, full_blocks, lay_out};
 use crate::{Answer, Held};
-use format::{COMPRESSION_BLOCK_SIZE, Layout, Refusal, TERMINATED, Term};
+use format::{COMPRESSION_BLOCK_SIZE, Refusal, TERMINATED, Term};
 use skip::block_size;
 
 // The least id that may follow a last id; none may follow TERMINATED.
@@ -109,59 +108,64 @@ pub fn answer_at(
     Ok(shown_at(held, term, docs, freqs))
 }
 
-// Unpacks a block that was found, and goes to its first place: questions 6 to 9. What a refusal leaves in the arrays, here and in all that
-// goes by this, isn't told: whoever may not lose them lends two of its own.
-fn unpack_found(
-    image: &[u8],
-    term: Term,
-    layout: Layout,
-    found: Found,
-    unpacked: usize,
-    docs: &mut [u32; 128],
-    freqs: &mut [u32; 128],
-) -> Result<Held, Refusal>
-    requires { FoundThere term image.now found × (unpacked + 1 < 2 ^ 64) }
-    ensures { Lands (loaded term layout image.now found unpacked) docs.new freqs.new result }
-{
-    let loaded = load_block(image, term, layout, found, unpacked, docs, freqs)?;
-    let info = found.info;
-    Ok(Held {
-        place: 0,
-        block: found.block,
-        next: found.at + block_size(info),
-        last_doc: info.last_doc,
-        unpacked: loaded.unpacked,
-        entries: found.entries,
-    })
-}
+impl<'a> LaidImage<'a> {
+    // Unpacks a block that was found, and goes to its first place: questions 6 to 9. What a refusal leaves in the arrays, here and in all that
+    // goes by this, isn't told: whoever may not lose them lends two of its own.
+    fn unpack_found(
+        &self,
+        found: Found,
+        unpacked: usize,
+        docs: &mut [u32; 128],
+        freqs: &mut [u32; 128],
+    ) -> Result<Held, Refusal>
+        requires { FoundThere self.now.term self.now.image.now found × (unpacked + 1 < 2 ^ 64) }
+        ensures { Lands (loaded self.now.term self.now.layout self.now.image.now found unpacked) docs.new freqs.new result }
+    {
+        let loaded = self.load_block(found, unpacked, docs, freqs)?;
+        let info = found.info;
+        Ok(Held {
+            place: 0,
+            block: found.block,
+            next: found.at + block_size(info),
+            last_doc: info.last_doc,
+            unpacked: loaded.unpacked,
+            entries: found.entries,
+        })
+    }
 
-// Goes to the first block from a block on whose last id is at least the target, and unpacks it: questions 5 to 9.
-pub(crate) fn land(
-    image: &[u8],
-    term: Term,
-    layout: Layout,
-    target: u32,
-    from: Start,
-    docs: &mut [u32; 128],
-    freqs: &mut [u32; 128],
-) -> Result<Held, Refusal>
-    requires { FindsFrom term layout image.now from × (from.unpacked + 1 < 2 ^ 64) }
-    ensures { Lands (landing term image.now layout target from) docs.new freqs.new result }
-{
-    let found = find_block(image, term, layout, target, from)?;
-    unpack_found(image, term, layout, found, from.unpacked, docs, freqs)
-}
+    // Goes to the first block from a block on whose last id is at least the target, and unpacks it: questions 5 to 9.
+    pub(crate) fn land(
+        &self,
+        target: u32,
+        from: Start,
+        docs: &mut [u32; 128],
+        freqs: &mut [u32; 128],
+    ) -> Result<Held, Refusal>
+        requires { FindsFrom self.now.term self.now.image.now from × (from.unpacked + 1 < 2 ^ 64) }
+        ensures { Lands (landing self.now.term self.now.image.now self.now.layout target from) docs.new freqs.new result }
+    {
+        let found = self.find_block(target, from)?;
+        self.unpack_found(found, from.unpacked, docs, freqs)
+    }
 
-// Block 0, before anything is read.
-pub(crate) fn first_start(layout: Layout) -> Start
-    ensures { result ≡ first_start_of layout }
-{
-    Start {
-        block: 0,
-        at: layout.postings,
-        least: 0,
-        entries: 0,
-        unpacked: 0,
+    // Block 0, before anything is read.
+    pub(crate) fn first_start(&self) -> Start
+        ensures { result ≡ first_start_of self.now.layout }
+    {
+        Start {
+            block: 0,
+            at: self.layout.postings,
+            least: 0,
+            entries: 0,
+            unpacked: 0,
+        }
+    }
+
+    // Whether a block that begins at `at` begins inside the posting bytes: a part of question 5, so asked of a block with an entry alone.
+    fn starts_inside(&self, block: usize, at: usize) -> bool
+        ensures { result ≡ starts_inside_of self.now.term self.now.layout block at }
+    {
+        full_blocks(self.term.count) <= block || self.layout.postings <= at
     }
 }
 
@@ -174,9 +178,8 @@ pub(crate) fn land_first(
 ) -> Result<Held, Refusal>
     ensures { Lands (opening image.now term) docs.new freqs.new result }
 {
-    let layout = lay_out(image, term)?;
-    let from = first_start(layout);
-    land(image, term, layout, 0, from, docs, freqs)
+    let laid = lay_out(image, term)?;
+    laid.land(0, laid.first_start(), docs, freqs)
 }
 
 // Opens a list at its first document; a refusal leaves the arrays as they were.
@@ -196,13 +199,6 @@ pub fn open_in(
     Ok(held)
 }
 
-// Whether a block that begins at `at` begins inside the posting bytes: a part of question 5, so asked of a block with an entry alone.
-fn starts_inside(term: Term, layout: Layout, block: usize, at: usize) -> bool
-    ensures { result ≡ starts_inside_of term layout block at }
-{
-    full_blocks(term.count) <= block || layout.postings <= at
-}
-
 // Goes to another block, from a full one: questions 1 to 4 are asked again of the image that is passed, then 5 to 9. A lent
 // cursor that didn't come from this image may place its next block before the posting bytes.
 fn leave(
@@ -216,12 +212,12 @@ fn leave(
     requires { (in_bounds_of term (length image.now) held ≡ true) × (held.block < term.count / 128) }
     ensures { Lands (leaving held image.now term target) docs.new freqs.new result }
 {
-    let layout = lay_out(image, term)?;
+    let laid = lay_out(image, term)?;
     let from = held.start_behind();
-    if !starts_inside(term, layout, from.block, from.at) {
+    if !laid.starts_inside(from.block, from.at) {
         return Err(Refusal::EntryBroken);
     }
-    land(image, term, layout, target, from, docs, freqs)
+    laid.land(target, from, docs, freqs)
 }
 
 // The same; a refusal leaves the arrays as they were. `open_in` stores as this does: one function of both would take a closure that is lent

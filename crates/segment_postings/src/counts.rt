@@ -1,14 +1,12 @@
 // Total: the sum of the frequencies of the documents below a target.
 
-ghost use Rattle.std.specs.Prelude.{Ok, ◌≡◌, ◌≤◌, length, take};
-ghost use Rattle.format.specs.Layout as layouts;
+ghost use Rattle.std.specs.Prelude.{◌≡◌, ◌≤◌, length, take};
 ghost use Rattle.format.specs.Counts.{total_in, total};
 ghost use Rattle.format.specs.Reading.{reading};
 ghost use Rattle.segment_postings.specs.Passed.{FrontOf, docs_in_of};
 
-use crate::arrays::{first_start, land};
-use crate::layout::{full_blocks, lay_out};
-use format::{COMPRESSION_BLOCK_SIZE, Layout, Refusal, TERMINATED, Term};
+use crate::layout::{LaidImage, full_blocks, lay_out};
+use format::{COMPRESSION_BLOCK_SIZE, Refusal, TERMINATED, Term};
 
 // The documents at the front of a block that lie below a target: the sum of their frequencies, and whether they are all of its. Both
 // are told in either case, so that it is no `Option`.
@@ -58,25 +56,26 @@ fn block_below(term: Term, block: usize, docs: &[u32], freqs: &[u32], target: u3
     front_below(&docs[..n], &freqs[..n], target)
 }
 
-// A walk block by block to the first document at or above the target. Where the next block begins only the landing on this one says, so no
-// range or iterator goes over them.
-fn total_laid(image: &[u8], term: Term, layout: Layout, target: u32) -> Result<u64, Refusal>
-    requires { layouts.layout term image.now ≡ Ok layout }
-    ensures { result ≡ total_in target (reading term image.now) }
-{
-    let blocks = full_blocks(term.count);
-    let mut docs = [0; 128];
-    let mut freqs = [0; 128];
-    let mut from = first_start(layout);
-    let mut passed = 0;
-    loop {
-        let held = land(image, term, layout, 0, from, &mut docs, &mut freqs)?;
-        let front = block_below(term, from.block, &docs, &freqs, target);
-        passed += front.freqs;
-        if !front.whole || blocks <= from.block {
-            return Ok(passed);
+impl<'a> LaidImage<'a> {
+    // A walk block by block to the first document at or above the target. Where the next block begins only the landing on this one says, so no
+    // range or iterator goes over them.
+    fn total(&self, target: u32) -> Result<u64, Refusal>
+        ensures { result ≡ total_in target (reading self.now.term self.now.image.now) }
+    {
+        let blocks = full_blocks(self.term.count);
+        let mut docs = [0; 128];
+        let mut freqs = [0; 128];
+        let mut from = self.first_start();
+        let mut passed = 0;
+        loop {
+            let held = self.land(0, from, &mut docs, &mut freqs)?;
+            let front = block_below(self.term, from.block, &docs, &freqs, target);
+            passed += front.freqs;
+            if !front.whole || blocks <= from.block {
+                return Ok(passed);
+            }
+            from = held.start_behind();
         }
-        from = held.start_behind();
     }
 }
 
@@ -92,6 +91,5 @@ pub fn total(image: &[u8], mode: u8, count: u32, target: u32) -> Result<u64, Ref
         requested: 1,
         count,
     };
-    let layout = lay_out(image, term)?;
-    total_laid(image, term, layout, target)
+    lay_out(image, term)?.total(target)
 }

@@ -6,8 +6,8 @@ ghost use Rattle.format.specs.Layout.{full_blocks_of, skip_bytes_of};
 ghost use Rattle.segment_postings.specs.Landing.{tail_info_of, find_block_of};
 ghost use Rattle.segment_postings.specs.Private.{FindsFrom};
 
-use crate::layout::full_blocks;
-use format::{BlockInfo, IndexRecordOption, Layout, Refusal, TERMINATED, Term};
+use crate::layout::{LaidImage, full_blocks};
+use format::{BlockInfo, IndexRecordOption, Refusal, TERMINATED};
 use skip::{block_size, entry_fits, entry_size, read_entry};
 
 // Where a search starts: a block, where its bytes begin, the least id that it may hold, and the entries read and the blocks unpacked by
@@ -52,53 +52,47 @@ fn entry_at(option: IndexRecordOption, skips: &[u8], at: usize) -> BlockInfo
     read_entry(option, skips, at).unwrap()
 }
 
-// From a block on, the first whose last id is at least the target, or the tail. Entries are read one by one, and each is asked question
-// 5, that of a block passed over too.
-pub(crate) fn find_block(
-    image: &[u8],
-    term: Term,
-    layout: Layout,
-    target: u32,
-    from: Start,
-) -> Result<Found, Refusal>
-    requires { FindsFrom term layout image.now from }
-    ensures { result ≡ find_block_of layout.option (skip_bytes_of layout image.now) image.now target
-        (full_blocks_of term - from.block) from }
-{
-    let mut at = from.at;
-    let mut least = from.least;
-    let mut entries = from.entries;
-    let option = layout.option;
-    let start = layout.skips;
-    let end = layout.postings;
-    let skips = &image[start..end];
-    let blocks = full_blocks(term.count);
-    let size = entry_size(option);
-    let mut entry = size * from.block;
-    for block in from.block..blocks {
-        let info = entry_at(option, skips, entry);
-        if !entry_fits(info, least, image.len() - at) {
-            return Err(Refusal::EntryBroken);
+impl<'a> LaidImage<'a> {
+    // From a block on, the first whose last id is at least the target, or the tail. Entries are read one by one, and each is asked question
+    // 5, that of a block passed over too.
+    pub(crate) fn find_block(&self, target: u32, from: Start) -> Result<Found, Refusal>
+        requires { FindsFrom self.now.term self.now.image.now from }
+        ensures { result ≡ find_block_of self.now.layout.option (skip_bytes_of self.now.layout self.now.image.now) self.now.image.now target
+            (full_blocks_of self.now.term - from.block) from }
+    {
+        let mut at = from.at;
+        let mut least = from.least;
+        let mut entries = from.entries;
+        let option = self.layout.option;
+        let skips = &self.image[self.layout.skips..self.layout.postings];
+        let blocks = full_blocks(self.term.count);
+        let size = entry_size(option);
+        let mut entry = size * from.block;
+        for block in from.block..blocks {
+            let info = entry_at(option, skips, entry);
+            if !entry_fits(info, least, self.image.len() - at) {
+                return Err(Refusal::EntryBroken);
+            }
+            entries += 1;
+            if target <= info.last_doc {
+                return Ok(Found {
+                    block,
+                    at,
+                    least,
+                    info,
+                    entries,
+                });
+            }
+            at += block_size(info);
+            least = info.last_doc + 1;
+            entry += size;
         }
-        entries += 1;
-        if target <= info.last_doc {
-            return Ok(Found {
-                block,
-                at,
-                least,
-                info,
-                entries,
-            });
-        }
-        at += block_size(info);
-        least = info.last_doc + 1;
-        entry += size;
+        Ok(Found {
+            block: blocks,
+            at,
+            least,
+            info: tail_info(),
+            entries,
+        })
     }
-    Ok(Found {
-        block: blocks,
-        at,
-        least,
-        info: tail_info(),
-        entries,
-    })
 }

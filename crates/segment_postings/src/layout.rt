@@ -1,12 +1,23 @@
 // Where the parts of an image lie: questions 1 to 4 of document 01, and the split into skip bytes and posting bytes.
 
-ghost use Rattle.std.specs.Prelude.{◌≡◌, ◌-◌, ◌/◌, ◌≤◌};
-ghost use Rattle.format.specs.Layout.{layout, sized};
+ghost use Rattle.std.specs.Prelude.{Ok, ◌≡◌, ◌-◌, ◌/◌, ◌≤◌};
+ghost use Rattle.std.specs.Result.{IfOk};
+ghost use Rattle.format.specs.Basics.{and_then};
+ghost use Rattle.format.specs.Layout as layouts;
 ghost use Rattle.segment_postings.specs.Calls.{split_of, skip_part, posting_part};
 
 use format::{COMPRESSION_BLOCK_SIZE, Layout, Refusal, TERMINATED, Term};
 use skip::{entry_size, known_mode, record_option};
 use vint::read_vint_u64;
+
+// An image to which questions 1 to 4 are answered yes, with its term and where its parts begin.
+#[derive(Clone, Copy)]
+pub(crate) struct LaidImage<'a> {
+    pub image: &'a [u8],
+    pub term: Term,
+    pub layout: Layout,
+    ghost laid_out: { layouts.layout term image.now ≡ Ok layout },
+}
 
 // Where the skip bytes and the posting bytes begin.
 #[derive(Clone, Copy)]
@@ -46,7 +57,7 @@ fn split_into_skips_and_postings(image: &[u8], count: u32) -> Result<Split, Refu
 // Question 4.
 fn lay_out_entries(term: Term, split: Split) -> Result<Layout, Refusal>
     requires { split.skips ≤ split.postings }
-    ensures { result ≡ sized term (split.postings - split.skips) split.skips }
+    ensures { result ≡ layouts.sized term (split.postings - split.skips) split.skips }
 {
     let size = split.postings - split.skips;
     let blocks = full_blocks(term.count);
@@ -62,8 +73,8 @@ fn lay_out_entries(term: Term, split: Split) -> Result<Layout, Refusal>
 }
 
 // Questions 1 to 4, in turn.
-pub(crate) fn lay_out(image: &[u8], term: Term) -> Result<Layout, Refusal>
-    ensures { result ≡ layout term image.now }
+fn ask_layout(image: &[u8], term: Term) -> Result<Layout, Refusal>
+    ensures { result ≡ layouts.layout term image.now }
 {
     if !known_mode(term.mode) || 2 < term.requested {
         return Err(Refusal::UnknownMode);
@@ -73,6 +84,20 @@ pub(crate) fn lay_out(image: &[u8], term: Term) -> Result<Layout, Refusal>
     }
     let split = split_into_skips_and_postings(image, term.count)?;
     lay_out_entries(term, split)
+}
+
+// The image laid out by them.
+#[tactic(auto, unfolding(format::specs::Basics::and_then))]
+pub(crate) fn lay_out<'a>(image: &'a [u8], term: Term) -> Result<LaidImage<'a>, Refusal>
+    ensures answer { and_then result (λ laid. Ok laid.layout) ≡ layouts.layout term image.now }
+    ensures image { IfOk result (λ laid. (laid.term ≡ term) × (laid.image.now ≡ image.now)) }
+{
+    let layout = ask_layout(image, term)?;
+    Ok(LaidImage {
+        image,
+        term,
+        layout,
+    })
 }
 
 // The skip bytes of a list of `count` documents, a part of its image. Of the questions only 3 is asked; where the answer is no the

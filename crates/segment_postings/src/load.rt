@@ -8,13 +8,11 @@ ghost use Rattle.segment_postings.specs.Private.{FoundThere, BlockLoaded};
 ghost use Rattle.segment_postings.specs.Taken.{ValuesTaken, DocsAsked, asked_freqs, full_taken_of, tail_taken_of};
 
 use crate::find::Found;
-use crate::layout::full_blocks;
+use crate::layout::{LaidImage, full_blocks};
 use bitpacking::unpack;
 use compression::compressed_block_size;
 use compression::values::{first_as_difference, has_zero, reduction, restore_docs};
-use format::{
-    BlockInfo, COMPRESSION_BLOCK_SIZE, IndexRecordOption, Layout, Refusal, TERMINATED, Term,
-};
+use format::{BlockInfo, COMPRESSION_BLOCK_SIZE, IndexRecordOption, Refusal, TERMINATED};
 use skip::has_freq;
 use vint::uncompress_unsorted;
 
@@ -99,74 +97,6 @@ fn keeps_freqs(option: IndexRecordOption, alone: bool, n: usize, image: &[u8], a
     has_freq(option) && !(alone && 0 < n && none_left(image, at))
 }
 
-// Takes the values of a block out of an image, and counts it. No other function does either. Ids are left as differences, frequencies as
-// they are; of a tail whose ids aren't all there nothing is told of the ids' array.
-pub(crate) fn take_values(
-    image: &[u8],
-    term: Term,
-    layout: Layout,
-    found: Found,
-    unpacked: usize,
-    docs: &mut [u32; 128],
-    freqs: &mut [u32; 128],
-) -> Taken
-    requires { FoundThere term image.now found × (unpacked + 1 < 2 ^ 64) }
-    ensures { ValuesTaken term layout image.now found unpacked docs.new freqs.new result }
-{
-    let blocks = full_blocks(term.count);
-    let counted = unpacked + 1;
-    if found.block < blocks {
-        let info = found.info;
-        let more = reduction(info.strict);
-        unpack(&image[found.at..], info.doc_width, more, docs);
-        if !info.strict {
-            first_as_difference(docs, found.least);
-        }
-        let kept = has_freq(layout.option);
-        if !kept || term.requested == 0 {
-            *freqs = [1; 128];
-            return full_taken(info, true, kept, counted);
-        }
-        let behind = found.at + compressed_block_size(info.doc_width);
-        unpack(&image[behind..], info.freq_width, more, freqs);
-        return full_taken(info, info.strict && info.freq_width < 32, kept, counted);
-    }
-    let n = term.count as usize % COMPRESSION_BLOCK_SIZE;
-    let mut ids = [TERMINATED; 128];
-    *freqs = [1; 128];
-    let Some(behind) = uncompress_unsorted(image, found.at, &mut ids[..n]) else {
-        return Taken {
-            docs_there: false,
-            ..tail_taken(n, false, counted)
-        };
-    };
-    first_as_difference(&mut ids[..n], found.least);
-    *docs = ids;
-    let kept = keeps_freqs(layout.option, blocks == 0, n, image, behind);
-    if !kept || n == 0 {
-        return Taken {
-            ended: none_left(image, behind),
-            ..tail_taken(n, kept, counted)
-        };
-    }
-    if term.requested == 0 {
-        return tail_taken(n, kept, counted);
-    }
-    let mut counts = [1; 128];
-    let Some(end) = uncompress_unsorted(image, behind, &mut counts[..n]) else {
-        return Taken {
-            freqs_there: false,
-            ..tail_taken(n, kept, counted)
-        };
-    };
-    *freqs = counts;
-    Taken {
-        freqs_nonzero: false,
-        ended: none_left(image, end),
-        ..tail_taken(n, kept, counted)
-    }
-}
-
 // Questions 8 and 6 of a block's ids, which then stand in the place of their differences.
 fn ask_docs(taken: Taken, least: u32, docs: &mut [u32; 128]) -> Result<(), Refusal>
     requires { (taken.docs_nonzero ≡ true → member 0 (take taken.n docs.old) ≡ false) }
@@ -199,24 +129,92 @@ fn ask_freqs(taken: Taken, freqs: &[u32; 128]) -> Result<(), Refusal>
     Ok(())
 }
 
-// Unpacks the block that was found into two lent arrays, and asks questions 6 to 9. What a refusal leaves in the arrays isn't told.
-pub(crate) fn load_block(
-    image: &[u8],
-    term: Term,
-    layout: Layout,
-    found: Found,
-    unpacked: usize,
-    docs: &mut [u32; 128],
-    freqs: &mut [u32; 128],
-) -> Result<Loaded, Refusal>
-    requires { FoundThere term image.now found × (unpacked + 1 < 2 ^ 64) }
-    ensures { BlockLoaded term layout image.now found unpacked docs.new freqs.new result }
-{
-    let taken = take_values(image, term, layout, found, unpacked, docs, freqs);
-    ask_docs(taken, found.least, docs)?;
-    ask_freqs(taken, freqs)?;
-    Ok(Loaded {
-        unpacked: taken.unpacked,
-        kept: taken.kept,
-    })
+impl<'a> LaidImage<'a> {
+    // Takes the values of a block out of an image, and counts it. No other function does either. Ids are left as differences, frequencies as
+    // they are; of a tail whose ids aren't all there nothing is told of the ids' array.
+    pub(crate) fn take_values(
+        &self,
+        found: Found,
+        unpacked: usize,
+        docs: &mut [u32; 128],
+        freqs: &mut [u32; 128],
+    ) -> Taken
+        requires { FoundThere self.now.term self.now.image.now found × (unpacked + 1 < 2 ^ 64) }
+        ensures { ValuesTaken self.now.term self.now.layout self.now.image.now found unpacked docs.new freqs.new result }
+    {
+        let image = self.image;
+        let option = self.layout.option;
+        let blocks = full_blocks(self.term.count);
+        let counted = unpacked + 1;
+        if found.block < blocks {
+            let info = found.info;
+            let more = reduction(info.strict);
+            unpack(&image[found.at..], info.doc_width, more, docs);
+            if !info.strict {
+                first_as_difference(docs, found.least);
+            }
+            let kept = has_freq(option);
+            if !kept || self.term.requested == 0 {
+                *freqs = [1; 128];
+                return full_taken(info, true, kept, counted);
+            }
+            let behind = found.at + compressed_block_size(info.doc_width);
+            unpack(&image[behind..], info.freq_width, more, freqs);
+            return full_taken(info, info.strict && info.freq_width < 32, kept, counted);
+        }
+        let n = self.term.count as usize % COMPRESSION_BLOCK_SIZE;
+        let mut ids = [TERMINATED; 128];
+        *freqs = [1; 128];
+        let Some(behind) = uncompress_unsorted(image, found.at, &mut ids[..n]) else {
+            return Taken {
+                docs_there: false,
+                ..tail_taken(n, false, counted)
+            };
+        };
+        first_as_difference(&mut ids[..n], found.least);
+        *docs = ids;
+        let kept = keeps_freqs(option, blocks == 0, n, image, behind);
+        if !kept || n == 0 {
+            return Taken {
+                ended: none_left(image, behind),
+                ..tail_taken(n, kept, counted)
+            };
+        }
+        if self.term.requested == 0 {
+            return tail_taken(n, kept, counted);
+        }
+        let mut counts = [1; 128];
+        let Some(end) = uncompress_unsorted(image, behind, &mut counts[..n]) else {
+            return Taken {
+                freqs_there: false,
+                ..tail_taken(n, kept, counted)
+            };
+        };
+        *freqs = counts;
+        Taken {
+            freqs_nonzero: false,
+            ended: none_left(image, end),
+            ..tail_taken(n, kept, counted)
+        }
+    }
+
+    // Unpacks the block that was found into two lent arrays, and asks questions 6 to 9. What a refusal leaves in the arrays isn't told.
+    pub(crate) fn load_block(
+        &self,
+        found: Found,
+        unpacked: usize,
+        docs: &mut [u32; 128],
+        freqs: &mut [u32; 128],
+    ) -> Result<Loaded, Refusal>
+        requires { FoundThere self.now.term self.now.image.now found × (unpacked + 1 < 2 ^ 64) }
+        ensures { BlockLoaded self.now.term self.now.layout self.now.image.now found unpacked docs.new freqs.new result }
+    {
+        let taken = self.take_values(found, unpacked, docs, freqs);
+        ask_docs(taken, found.least, docs)?;
+        ask_freqs(taken, freqs)?;
+        Ok(Loaded {
+            unpacked: taken.unpacked,
+            kept: taken.kept,
+        })
+    }
 }

@@ -13,7 +13,7 @@ fn blank() -> SegmentPostings
     ensures { result ≡ blank }
 {
     SegmentPostings {
-        docs: [2147483647; 128],
+        docs: [TERMINATED; 128],
         held: Held {
             place: COMPRESSION_BLOCK_SIZE,
             block: 0,

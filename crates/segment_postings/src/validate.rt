@@ -1,14 +1,13 @@
 // Admission: whether an image is sound, which a walk over all its blocks tells.
 
-ghost use Rattle.std.specs.Prelude.{Ok, ◌≡◌};
-ghost use Rattle.format.specs.Layout as layouts;
+ghost use Rattle.std.specs.Prelude.{◌≡◌};
 ghost use Rattle.format.specs.Reading.{reading, soundness};
 ghost use Rattle.segment_postings.specs.Taken.{ends_before, freqs_to_ask_of};
 
-use crate::find::{Start, find_block};
-use crate::layout::lay_out;
-use crate::load::{Taken, take_values};
-use format::{Layout, Refusal, TERMINATED, Term};
+use crate::find::Start;
+use crate::layout::{LaidImage, lay_out};
+use crate::load::Taken;
+use format::{Refusal, TERMINATED, Term};
 use skip::block_size;
 
 // Whether the ids of a full block end on its entry's last id, with `least` the least id that may come behind them: question 6.
@@ -25,59 +24,60 @@ fn freqs_to_ask(taken: Taken) -> usize
     if taken.freqs_nonzero { 0 } else { taken.n }
 }
 
-// Walks over the blocks, by labelled loops over the blocks and the places of each, as document 01 asks: the first question that is
-// answered no ends the whole walk, from inside a block's places too. The tail ends the loop over the blocks from inside as well, so it has
-// no range. `least` is one more than the id before; 64 bits hold any sum.
-fn walk(image: &[u8], term: Term, layout: Layout) -> Result<(), Refusal>
-    requires { layouts.layout term image.now ≡ Ok layout }
-    ensures { result ≡ (reading term image.now).verdict }
-{
-    let mut docs = [0; 128];
-    let mut freqs = [0; 128];
-    let mut block = 0;
-    let mut at = layout.postings;
-    let mut least: u64 = 0;
-    'blocks: loop {
-        let from = Start {
-            block,
-            at,
-            least: least as u32,
-            entries: block,
-            unpacked: block,
-        };
-        let found = match find_block(image, term, layout, 0, from) {
-            Ok(found) => found,
-            Err(refusal) => break 'blocks Err(refusal),
-        };
-        let taken = take_values(image, term, layout, found, block, &mut docs, &mut freqs);
-        if !taken.docs_there {
-            break 'blocks Err(Refusal::NumberBroken);
-        }
-        'ids: for &difference in &docs[..taken.n] {
-            least += difference as u64;
-            if difference == 0 || (TERMINATED as u64) < least {
+impl<'a> LaidImage<'a> {
+    // Walks over the blocks, by labelled loops over the blocks and the places of each, as document 01 asks: the first question that is
+    // answered no ends the whole walk, from inside a block's places too. The tail ends the loop over the blocks from inside as well, so it has
+    // no range. `least` is one more than the id before; 64 bits hold any sum.
+    fn walk(&self) -> Result<(), Refusal>
+        ensures { result ≡ (reading self.now.term self.now.image.now).verdict }
+    {
+        let mut docs = [0; 128];
+        let mut freqs = [0; 128];
+        let mut block = 0;
+        let mut at = self.layout.postings;
+        let mut least: u64 = 0;
+        'blocks: loop {
+            let from = Start {
+                block,
+                at,
+                least: least as u32,
+                entries: block,
+                unpacked: block,
+            };
+            let found = match self.find_block(0, from) {
+                Ok(found) => found,
+                Err(refusal) => break 'blocks Err(refusal),
+            };
+            let taken = self.take_values(found, block, &mut docs, &mut freqs);
+            if !taken.docs_there {
+                break 'blocks Err(Refusal::NumberBroken);
+            }
+            'ids: for &difference in &docs[..taken.n] {
+                least += difference as u64;
+                if difference == 0 || (TERMINATED as u64) < least {
+                    break 'blocks Err(Refusal::DocsNotRising);
+                }
+            }
+            if !ends_right(taken, least) {
                 break 'blocks Err(Refusal::DocsNotRising);
             }
-        }
-        if !ends_right(taken, least) {
-            break 'blocks Err(Refusal::DocsNotRising);
-        }
-        if !taken.freqs_there {
-            break 'blocks Err(Refusal::NumberBroken);
-        }
-        'counts: for &freq in &freqs[..freqs_to_ask(taken)] {
-            if freq == 0 {
-                break 'blocks Err(Refusal::FreqOutOfRange);
+            if !taken.freqs_there {
+                break 'blocks Err(Refusal::NumberBroken);
             }
+            'counts: for &freq in &freqs[..freqs_to_ask(taken)] {
+                if freq == 0 {
+                    break 'blocks Err(Refusal::FreqOutOfRange);
+                }
+            }
+            if !taken.ended {
+                break 'blocks Err(Refusal::BytesLeft);
+            }
+            if !taken.full {
+                break 'blocks Ok(());
+            }
+            at += block_size(found.info);
+            block += 1;
         }
-        if !taken.ended {
-            break 'blocks Err(Refusal::BytesLeft);
-        }
-        if !taken.full {
-            break 'blocks Ok(());
-        }
-        at += block_size(found.info);
-        block += 1;
     }
 }
 
@@ -90,6 +90,5 @@ pub fn validate(image: &[u8], mode: u8, count: u32) -> Result<(), Refusal>
         requested: 1,
         count,
     };
-    let layout = lay_out(image, term)?;
-    walk(image, term, layout)
+    lay_out(image, term)?.walk()
 }

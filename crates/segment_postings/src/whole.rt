@@ -5,11 +5,10 @@ ghost use Rattle.format.specs.Basics.{put_at};
 ghost use Rattle.segment_postings.specs.Passed.{docs_in_of};
 ghost use Rattle.segment_postings.specs.ReadWhole.{Walks, Written, WholeRead, read_whole};
 
-use crate::arrays::{first_start, land};
 use crate::counts::docs_in;
-use crate::layout::{full_blocks, lay_out};
+use crate::layout::{LaidImage, full_blocks, lay_out};
 use crate::validate::validate;
-use format::{COMPRESSION_BLOCK_SIZE, Layout, Refusal, Term};
+use format::{COMPRESSION_BLOCK_SIZE, Refusal, Term};
 
 // Copies a block's values to where they stand among those of all blocks.
 fn put_block(term: Term, block: usize, values: &[u32], out: &mut [u32])
@@ -21,25 +20,25 @@ fn put_block(term: Term, block: usize, values: &[u32], out: &mut [u32])
     out[at..at + n].copy_from_slice(&values[..n]);
 }
 
-// A walk block by block over an image that was found sound, so that none is refused. It goes as the total's does.
-fn read_laid(image: &[u8], term: Term, layout: Layout, docs: &mut [u32], freqs: &mut [u32])
-    requires { Walks term layout image.now (length docs.old) (length freqs.old) }
-    ensures { Written term image.now docs.old freqs.old docs.new freqs.new }
-{
-    let blocks = full_blocks(term.count);
-    let mut ids = [0; 128];
-    let mut counts = [0; 128];
-    let mut from = first_start(layout);
-    loop {
-        let Ok(held) = land(image, term, layout, 0, from, &mut ids, &mut counts) else {
-            return;
-        };
-        put_block(term, from.block, &ids, docs);
-        put_block(term, from.block, &counts, freqs);
-        if blocks <= from.block {
-            return;
+impl<'a> LaidImage<'a> {
+    // A walk block by block over an image that was found sound, so that none is refused. It goes as the total's does.
+    fn read(&self, docs: &mut [u32], freqs: &mut [u32])
+        requires { Walks self.now.term self.now.image.now (length docs.old) (length freqs.old) }
+        ensures { Written self.now.term self.now.image.now docs.old freqs.old docs.new freqs.new }
+    {
+        let blocks = full_blocks(self.term.count);
+        let mut ids = [0; 128];
+        let mut counts = [0; 128];
+        let mut from = self.first_start();
+        loop {
+            let held = self.land(0, from, &mut ids, &mut counts).unwrap();
+            put_block(self.term, from.block, &ids, docs);
+            put_block(self.term, from.block, &counts, freqs);
+            if blocks <= from.block {
+                return;
+            }
+            from = held.start_behind();
         }
-        from = held.start_behind();
     }
 }
 
@@ -49,12 +48,12 @@ pub fn read(image: &[u8], term: Term, docs: &mut [u32], freqs: &mut [u32]) -> Re
     ensures { WholeRead (read_whole term image.now (length docs.old) (length freqs.old))
         docs.old freqs.old docs.new freqs.new result }
 {
-    let layout = lay_out(image, term)?;
+    let laid = lay_out(image, term)?;
     validate(image, term.mode, term.count)?;
     let count = term.count as usize;
     if docs.len() < count || freqs.len() < count {
         return Err(Refusal::NoRoom);
     }
-    read_laid(image, term, layout, docs, freqs);
+    laid.read(docs, freqs);
     Ok(count as u64)
 }

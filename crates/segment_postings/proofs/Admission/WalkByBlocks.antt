@@ -118,7 +118,7 @@ module _ (t : Term) (bs : List ℕ) (l : Layout) (laid : layout t bs ≡ Ok l) w
       let found = and_then-ok _ _ (sym (landing_is t bs l 0 (walking b at least)) ∙ e) in
       let loads = and_then-ok _ _ found.2 in
       let same : holding found.0 b loads.0 ≡ d = ok_same loads.2 in
-      let from : FindsFrom t l bs (walking b at least) = walking-from t l bs laid k.block_most_is k.inside in
+      let from : FindsFrom t bs (walking b at least) = walking-from t l bs k.block_most_is k.inside in
       let there = found-there t l bs 0 (walking b at least) from found.1 in
       let here = (found-same t l bs b at least found.1).0 in
       record {

@@ -36,8 +36,8 @@ abbrev pub walking : ℕ → ℕ → ℕ → Start
 walking b at least = record { block = b; at = at; least = least; entries = b; unpacked = b }
 
 module _ (t : Term) (l : Layout) (bs : List ℕ) where
-  pub walking-from : {b at least : ℕ} → layout t bs ≡ Ok l → b ≤ full_blocks_of t → at ≤ length bs → FindsFrom t l bs (walking b at least)
-  walking-from laid most inside = record { laid_out = laid; block_most_is = most; inside = inside; entries_most = omega arith }
+  pub walking-from : {b at least : ℕ} → b ≤ full_blocks_of t → at ≤ length bs → FindsFrom t bs (walking b at least)
+  walking-from most inside = record { block_most_is = most; inside = inside; entries_most = omega arith }
 
   -- block b, found and unpacked
   unfoldable pub loaded_at : ℕ → ℕ → ℕ → Outcome Block

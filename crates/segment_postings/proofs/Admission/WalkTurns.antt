@@ -43,9 +43,9 @@ module _ (t : Term) (l : Layout) (bs : List ℕ) where
     unfolding full_blocks_of
     few-blocks few = omega (arith, w.block_most_is)
 
-    pub lands-from : t.count < 2 ^ 32 → FindsFrom t l bs s × (s.unpacked + 1 < 2 ^ 64)
+    pub lands-from : t.count < 2 ^ 32 → FindsFrom t bs s × (s.unpacked + 1 < 2 ^ 64)
     lands-from few = (
-      rw w.is_walking (walking-from t l bs w.laid w.block_most_is w.inside),
+      rw w.is_walking (walking-from t l bs w.block_most_is w.inside),
       omega (arith, few-blocks few, ap (λ (x : Start). x.unpacked) w.is_walking),
     )
 

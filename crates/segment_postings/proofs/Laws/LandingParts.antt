@@ -170,8 +170,8 @@ module _ (bs : List ℕ) (t : Term) where
   unfolding opening and_then
   opening-refused e = rw e
 
-  pub opens-from : {l : Layout} → layout t bs ≡ Ok l → FindsFrom t l bs (first_start_of l)
-  opens-from e = record { laid_out = e; block_most_is = omega arith; inside = (laid_out t bs e).inside; entries_most = omega arith }
+  pub opens-from : {l : Layout} → layout t bs ≡ Ok l → FindsFrom t bs (first_start_of l)
+  opens-from e = record { block_most_is = omega arith; inside = (laid_out t bs e).inside; entries_most = omega arith }
 
 module _ (h : Held) (bs : List ℕ) (t : Term) where
   pub leaving-laid : (target : ℕ) {l : Layout} → layout t bs ≡ Ok l → starts_inside_of t l (h.block + 1) h.next ≡ true
@@ -188,9 +188,9 @@ module _ (h : Held) (bs : List ℕ) (t : Term) where
   unfolding leaving and_then
   leaving-refused target e = rw e
 
-  pub leaves-from : {l : Layout} → Bounded t (length bs) h → h.block < t.count / 128 → layout t bs ≡ Ok l → FindsFrom t l bs (start_behind_of h)
+  pub leaves-from : Bounded t (length bs) h → h.block < t.count / 128 → FindsFrom t bs (start_behind_of h)
   unfolding full_blocks_of
-  leaves-from b full e = record { laid_out = e; block_most_is = omega arith; inside = b.next_inside; entries_most = b.entries_behind }
+  leaves-from b full = record { block_most_is = omega arith; inside = b.next_inside; entries_most = b.entries_behind }
 
 -- ---- a step
 

@@ -60,8 +60,8 @@ module _ (t : Term) (bs : List ℕ) (docs_room freqs_room : ℕ) where
       freqs-short h = rw (e, sound, lt-leb t.count freqs_room h, and-false)
 
       module _ (docs_fit : t.count ≤ docs_room) (freqs_fit : t.count ≤ freqs_room) where
-        pub whole_walks : Walks t l bs docs_room freqs_room
-        whole_walks = record { laid_out = e; sound = known_sound t bs e sound; docs_fit = docs_fit; freqs_fit = freqs_fit }
+        pub whole_walks : Walks t bs docs_room freqs_room
+        whole_walks = record { sound = known_sound t bs e sound; docs_fit = docs_fit; freqs_fit = freqs_fit }
 
         pub whole_is : read_whole t bs docs_room freqs_room ≡ Ok (reading t bs).blocks
         unfolding read_whole and_then ask

@@ -195,7 +195,7 @@ pub record FoundFrom (t : Term) (l : Layout) (bs : List ℕ) (s : Start) (f : Fo
   pub entries_most : s.entries ≤ min s.block (full_blocks_of t) → f.entries ≤ min (f.block + 1) (full_blocks_of t)
   pub least_known : LeastKnown l.option (skip_bytes_of l bs) s.block s.least f
 
-module _ (t : Term) (l : Layout) (bs : List ℕ) (target : ℕ) (s : Start) {f : Found} (from : FindsFrom t l bs s)
+module _ (t : Term) (l : Layout) (bs : List ℕ) (target : ℕ) (s : Start) {f : Found} (from : FindsFrom t bs s)
     (e : find_block_of l.option (skip_bytes_of l bs) bs target (full_blocks_of t - s.block) s ≡ Ok f) where
   land : Landed l.option (skip_bytes_of l bs) bs (full_blocks_of t - s.block) s.block s.least s.entries f
   land = landed l.option (skip_bytes_of l bs) bs target (full_blocks_of t - s.block) s from.inside e

@@ -22,6 +22,7 @@ use Rattle.segment_postings.specs.declared.find.Start.{Start}
 use Rattle.segment_postings.specs.Cursor.{start_behind_of}
 use Rattle.segment_postings.specs.Landing.{first_start_of, landing}
 use Rattle.segment_postings.specs.Passed.{docs_in_of}
+use Rattle.format.specs.Layout.{layout}
 use Rattle.segment_postings.specs.ReadWhole.{Walks, Written}
 use Rattle.segment_postings.proofs.Admission.LandingReads.{BlockHeld, docs_in_full, reads_first, reads-last}
 use Rattle.segment_postings.proofs.Admission.WalkTurns.{WalksFrom, reading_from, walks-first, turn-none, turn}
@@ -70,11 +71,11 @@ pub record Copied (t : Term) (l : Layout) (bs docs₀ freqs₀ : List ℕ) (s : 
   docs_filled : Filled (docs_of (reading t bs).blocks) (docs_of (reading_from t l bs s).blocks) s.block docs₀ docs
   freqs_filled : Filled (freqs_of (reading t bs).blocks) (freqs_of (reading_from t l bs s).blocks) s.block freqs₀ freqs
 
-pub copied_none : (t : Term) (l : Layout) (bs docs freqs : List ℕ) {s : Start} → Walks t l bs (length docs) (length freqs) → s ≡ first_start_of l
+pub copied_none : (t : Term) (l : Layout) (bs docs freqs : List ℕ) {s : Start} → layout t bs ≡ Ok l → Walks t bs (length docs) (length freqs) → s ≡ first_start_of l
     → Copied t l bs docs freqs s docs freqs
-copied_none t l bs docs freqs {s} w is =
+copied_none t l bs docs freqs {s} laid w is =
     let blocks = sound-blocks (sound-image t bs w.sound) in
-    let first = walks-first t l bs w.laid_out is in
+    let first = walks-first t l bs laid is in
     let here = first.1 in
     let none : s.block ≡ 0 = ap (λ (x : Start). x.block) is in
     record {

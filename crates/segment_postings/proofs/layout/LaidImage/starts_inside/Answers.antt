@@ -1,9 +1,9 @@
--- `segment_postings::arrays::starts_inside` meets its contract: its tests are the definition's.
+-- `segment_postings::layout::LaidImage::starts_inside` meets its contract: its tests are the definition's.
 -- Assumes nothing.
 use Rattle.std.proofs.Common.{arith}
 use Rattle.format.specs.Layout.{full_blocks_of}
 use Rattle.segment_postings.specs.Cursor.{starts_inside_of}
-use Rattle.segment_postings.proofs.arrays.starts_inside.Goals as goal
+use Rattle.segment_postings.proofs.layout.LaidImage.starts_inside.Goals as goal
 
 pub returns-then-full_blocks-block : goal.returns-then-full_blocks-block
 unfolding starts_inside_of full_blocks_of

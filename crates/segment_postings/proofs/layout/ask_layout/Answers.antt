@@ -1,4 +1,4 @@
--- `segment_postings::layout::lay_out` meets its contract: its tests are questions 1 and 2, and behind them the layout stands at the
+-- `segment_postings::layout::ask_layout` meets its contract: its tests are questions 1 and 2, and behind them the layout stands at the
 -- places of the split.
 -- Assumes nothing.
 use Rattle.std.proofs.Common.{◌≡◌, sym, refl, ◌∙◌, true, ◌≤◌, List, ℕ}
@@ -11,8 +11,8 @@ use Rattle.format.specs.Layout.{layout}
 use Rattle.segment_postings.specs.declared.layout.Split.{Split}
 use Rattle.segment_postings.specs.Calls.{split_of}
 use Rattle.segment_postings.proofs.layout.SplitParts.{split_places, layout_at, layout-at}
-use Rattle.segment_postings.proofs.layout.lay_out.Goals as goal
-use Rattle.segment_postings.proofs.layout.lay_out.Goals.{then-not-known_mode-via-then-not-known_mode, then-not-known_mode-via-else-not-known_mode+then-term-gt2}
+use Rattle.segment_postings.proofs.layout.ask_layout.Goals as goal
+use Rattle.segment_postings.proofs.layout.ask_layout.Goals.{then-not-known_mode-via-then-not-known_mode, then-not-known_mode-via-else-not-known_mode+then-term-gt2}
 
 -- where questions 1 and 2 are answered yes
 laid_out : (t : Term) (bs : List ℕ) {r : Outcome Split} → split_of t.count bs ≡ r → known_mode_of t.mode ≡ true → t.requested ≤ 2

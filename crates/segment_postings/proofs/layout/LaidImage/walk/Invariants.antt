@@ -7,7 +7,7 @@ use Rattle.format.specs.Layout.{full_blocks_of}
 use Rattle.format.specs.Reading.{reading}
 use Rattle.segment_postings.proofs.Admission.WalkReads.{reading_at}
 use Rattle.segment_postings.proofs.validate.PlaceByPlace.{Ordered, ZeroToCome}
-use Rattle.segment_postings.proofs.validate.walk.Given as goal
+use Rattle.segment_postings.proofs.layout.LaidImage.walk.Given as goal
 
 abbrev pub invariant-ids : goal.invariant-ids
 invariant-ids l = record {
@@ -21,11 +21,11 @@ invariant-counts l = ZeroToCome l.freq-items (drop l.freq-index l.freq-items)
 
 abbrev pub invariant-blocks-2 : goal.invariant-blocks-2
 invariant-blocks-2 l = record {
-  block_most_is : l.block ≤ full_blocks_of l.term;
-  at_inside : l.at ≤ length l.image;
+  block_most_is : l.block ≤ full_blocks_of l.self.term;
+  at_inside : l.at ≤ length l.self.image.now;
   least_most : l.least ≤ TERMINATED;
-  same : (reading l.term l.image).verdict ≡ (reading_at l.term l.layout l.image l.block l.at l.least).verdict;
+  same : (reading l.self.term l.self.image.now).verdict ≡ (reading_at l.self.term l.self.layout l.self.image.now l.block l.at l.least).verdict;
 }
 
 abbrev pub decreases-blocks-2 : goal.decreases-blocks-2
-decreases-blocks-2 l = full_blocks_of l.term - l.block
+decreases-blocks-2 l = full_blocks_of l.self.term - l.block

@@ -1,10 +1,10 @@
--- `segment_postings::arrays::land` meets its contract: a landing is the block found, unpacked.
+-- `segment_postings::layout::LaidImage::land` meets its contract: a landing is the block found, unpacked.
 -- Assumes nothing.
 use Rattle.std.proofs.Common.{sym}
 use Rattle.segment_postings.proofs.Laws.Exits.{passed_on}
 use Rattle.segment_postings.proofs.find.FoundBlock.{found-there}
 use Rattle.segment_postings.proofs.Laws.LandingParts.{lands_as, none-lands, landing-found, landing-refused}
-use Rattle.segment_postings.proofs.arrays.land.Goals as goal
+use Rattle.segment_postings.proofs.layout.LaidImage.land.Goals as goal
 
 pub unpack_found-requires : goal.unpack_found-requires
 unpack_found-requires c = (

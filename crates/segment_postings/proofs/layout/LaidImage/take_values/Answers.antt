@@ -22,10 +22,10 @@ use Rattle.segment_postings.specs.Private.{FoundThere}
 use Rattle.segment_postings.proofs.load.BlockQuestions.{full_differences}
 use Rattle.segment_postings.proofs.load.TakeValuesCases.{unpacked_from, values-small, full-docs, full_without, full_with}
 use Rattle.segment_postings.proofs.load.TakeValuesCases.{tail_broken, tail_without, tail-unasked, tail-freqs_broken, tail_with}
-use Rattle.segment_postings.proofs.load.take_values.Goals as goal
-use Rattle.segment_postings.proofs.load.take_values.Goals.{then-not-info, else-not-info, then-info, else-info}
-use Rattle.segment_postings.proofs.load.take_values.Goals.{then-not-kept-via-then-not-kept, then-not-kept-via-else-not-kept+then-term-eq0}
-use Rattle.segment_postings.proofs.load.take_values.Goals.{then-not-kept-2-via-then-not-kept-2, then-not-kept-2-via-else-not-kept-2+then-n-eq0}
+use Rattle.segment_postings.proofs.layout.LaidImage.take_values.Goals as goal
+use Rattle.segment_postings.proofs.layout.LaidImage.take_values.Goals.{then-not-info, else-not-info, then-info, else-info}
+use Rattle.segment_postings.proofs.layout.LaidImage.take_values.Goals.{then-not-kept-via-then-not-kept, then-not-kept-via-else-not-kept+then-self-eq0}
+use Rattle.segment_postings.proofs.layout.LaidImage.take_values.Goals.{then-not-kept-2-via-then-not-kept-2, then-not-kept-2-via-else-not-kept-2+then-n-eq0}
 
 -- ---- where the block lies
 
@@ -94,9 +94,9 @@ told e v = rw e v
 
 pub returns-then-not-kept : goal.returns-then-not-kept
 returns-then-not-kept c =
-    let room = full-room c.args.term c.args.found c.args.image.now c.requires.0 in
-    let unpacked = ids_unpacked c.args.found c.args.image.now _ _ _ _ c.unpack.ensures c.reduction-more.ensures c.requires.0.doc_width (omega (arith, room)) in
-    let docs_are = ids_taken c.args.found c.args.image.now c.unpack.new.values c.if-not-info.docs c.requires.0.doc_width unpacked
+    let room = full-room c.args.self.now.term c.args.found c.args.self.now.image.now c.requires.0 in
+    let unpacked = ids_unpacked c.args.found c.args.self.now.image.now _ _ _ _ c.unpack.ensures c.reduction-more.ensures c.requires.0.doc_width (omega (arith, room)) in
+    let docs_are = ids_taken c.args.found c.args.self.now.image.now c.unpack.new.values c.if-not-info.docs c.requires.0.doc_width unpacked
     (λ strict. elim c.if-not-info.branch [
       | then-not-info w ↦ absurd (false≢true (sym w.if-not-info.true ∙ strict))
       | else-not-info w ↦ w.docs-is
@@ -105,28 +105,28 @@ returns-then-not-kept c =
       | then-not-info w ↦ w.docs-is ∙ w.first_as_difference.ensures
       | else-not-info w ↦ absurd (false≢true (sym plain ∙ w.if-not-info.false))
     ]) in
-    let unwanted : and (has_freq_of c.args.layout.option) (ltb 0 c.args.term.requested) ≡ false
+    let unwanted : and (has_freq_of c.args.self.now.layout.option) (ltb 0 c.args.self.now.term.requested) ≡ false
     = elim c.then-not-kept.branch [
       | then-not-kept-via-then-not-kept w ↦ unkept _ _ (sym c.has_freq-kept.ensures ∙ w.if-not-kept.true)
-      | then-not-kept-via-else-not-kept+then-term-eq0 w ↦ unasked _ _ w.if-term-eq0.true
+      | then-not-kept-via-else-not-kept+then-self-eq0 w ↦ unasked _ _ w.if-self-eq0.true
     ] in
     told (c.full_taken.ensures ∙ ap (λ (kept : Bool). full_taken_of c.args.found.info true kept (c.args.unpacked + 1)) c.has_freq-kept.ensures)
-    (full_without c.args.term c.args.layout c.args.image.now c.args.found c.args.unpacked
-    (inside c.args.term c.args.found c.full_blocks-blocks.ensures c.if-found-blocks.true) c.requires.0.doc_width _ docs_are unwanted)
+    (full_without c.args.self.now.term c.args.self.now.layout c.args.self.now.image.now c.args.found c.args.unpacked
+    (inside c.args.self.now.term c.args.found c.full_blocks-blocks.ensures c.if-found-blocks.true) c.requires.0.doc_width _ docs_are unwanted)
 
 pub slice_bounds-unpack-count-then-found-blocks : goal.slice_bounds-unpack-count-then-found-blocks
-slice_bounds-unpack-count-then-found-blocks c = omega (arith, full-room c.args.term c.args.found c.args.image.now c.requires.0)
+slice_bounds-unpack-count-then-found-blocks c = omega (arith, full-room c.args.self.now.term c.args.found c.args.self.now.image.now c.requires.0)
 
 pub slice_bounds-unpack-start-then-found-blocks : goal.slice_bounds-unpack-start-then-found-blocks
-slice_bounds-unpack-start-then-found-blocks c = omega (arith, full-room c.args.term c.args.found c.args.image.now c.requires.0)
+slice_bounds-unpack-start-then-found-blocks c = omega (arith, full-room c.args.self.now.term c.args.found c.args.self.now.image.now c.requires.0)
 
 pub returns-then-found-blocks : goal.returns-then-found-blocks
 returns-then-found-blocks c =
     let f : Found = c.args.found in
-    let bs : List ℕ = c.args.image.now in
-    let room = full-room c.args.term c.args.found c.args.image.now c.requires.0 in
-    let unpacked = ids_unpacked c.args.found c.args.image.now _ _ _ _ c.unpack.ensures c.reduction-more.ensures c.requires.0.doc_width (omega (arith, room)) in
-    let docs_are = ids_taken c.args.found c.args.image.now c.unpack.new.values c.if-not-info.docs c.requires.0.doc_width unpacked
+    let bs : List ℕ = c.args.self.now.image.now in
+    let room = full-room c.args.self.now.term c.args.found c.args.self.now.image.now c.requires.0 in
+    let unpacked = ids_unpacked c.args.found c.args.self.now.image.now _ _ _ _ c.unpack.ensures c.reduction-more.ensures c.requires.0.doc_width (omega (arith, room)) in
+    let docs_are = ids_taken c.args.found c.args.self.now.image.now c.unpack.new.values c.if-not-info.docs c.requires.0.doc_width unpacked
     (λ strict. elim c.if-not-info.branch [
       | then-not-info w ↦ absurd (false≢true (sym w.if-not-info.true ∙ strict))
       | else-not-info w ↦ w.docs-is
@@ -135,7 +135,7 @@ returns-then-found-blocks c =
       | then-not-info w ↦ w.docs-is ∙ w.first_as_difference.ensures
       | else-not-info w ↦ absurd (false≢true (sym plain ∙ w.if-not-info.false))
     ]) in
-    let wanted = asked_for _ c.args.term.requested (sym c.has_freq-kept.ensures ∙ c.if-not-kept.false) c.if-term-eq0.false in
+    let wanted = asked_for _ c.args.self.now.term.requested (sym c.has_freq-kept.ensures ∙ c.if-not-kept.false) c.if-self-eq0.false in
     let p : ℕ = f.at + c.compressed_block_size.result in
     let place : p ≡ f.at + 16 * f.info.doc_width = omega arith in
     let freqs_are = unpacked_from f.info.freq_width c.reduction-more.result p bs _ _ _ c.unpack-then-found-blocks.ensures c.requires.0.freq_width (omega (arith, room)) in
@@ -145,24 +145,24 @@ returns-then-found-blocks c =
       | else-info w ↦ absurd (false≢true (sym w.if-info.false ∙ (sym w.full_taken-is ∙ h)))
     ] in
     told (c.full_taken-then-found-blocks.ensures ∙ ap (λ (kept : Bool). full_taken_of f.info c.if-info.full_taken kept (c.args.unpacked + 1)) c.has_freq-kept.ensures)
-    (full_with c.args.term c.args.layout bs f c.args.unpacked
-    (inside c.args.term f c.full_blocks-blocks.ensures c.if-found-blocks.true) c.requires.0.doc_width _ docs_are _ p _ wanted ruled_out
+    (full_with c.args.self.now.term c.args.self.now.layout bs f c.args.unpacked
+    (inside c.args.self.now.term f c.full_blocks-blocks.ensures c.if-found-blocks.true) c.requires.0.doc_width _ docs_are _ p _ wanted ruled_out
     c.requires.0.freq_width place
     (freqs_are ∙ ap (λ (more : ℕ). map (with_more_of more) (unpack f.info.freq_width (drop p bs))) c.reduction-more.ensures))
 
 pub returns-in_default : goal.returns-in_default
 returns-in_default c =
     rw c.tail_taken.ensures
-    (tail_broken c.args.term c.args.layout c.args.image.now c.args.found c.args.unpacked
-    (past c.args.term c.args.found c.full_blocks-blocks.ensures c.if-found-blocks.false) _
+    (tail_broken c.args.self.now.term c.args.self.now.layout c.args.self.now.image.now c.args.found c.args.unpacked
+    (past c.args.self.now.term c.args.found c.full_blocks-blocks.ensures c.if-found-blocks.false) _
     (sym c.in_default.is ∙ c.uncompress_unsorted.ensures.value))
 
 pub returns-then-not-kept-2 : goal.returns-then-not-kept-2
 returns-then-not-kept-2 c =
-    let n : ℕ = c.args.term.count % 128 in
+    let n : ℕ = c.args.self.now.term.count % 128 in
     let ids : List ℕ = c.uncompress_unsorted.new.values ++ drop n (replicate 128 TERMINATED) in
-    let kept_is = keeps c.args.term c.args.layout (drop c.in-Some.behind c.args.image.now) c.full_blocks-blocks.ensures c.keeps_freqs-kept.ensures in
-    let without : and (keeps_freqs_of c.args.layout.option (eqb (full_blocks_of c.args.term) 0) n (drop c.in-Some.behind c.args.image.now)) (ltb 0 n) ≡ false
+    let kept_is = keeps c.args.self.now.term c.args.self.now.layout (drop c.in-Some.behind c.args.self.now.image.now) c.full_blocks-blocks.ensures c.keeps_freqs-kept.ensures in
+    let without : and (keeps_freqs_of c.args.self.now.layout.option (eqb (full_blocks_of c.args.self.now.term) 0) n (drop c.in-Some.behind c.args.self.now.image.now)) (ltb 0 n) ≡ false
     = elim c.then-not-kept-2.branch [
       | then-not-kept-2-via-then-not-kept-2 w ↦ unkept _ _ (sym kept_is ∙ w.if-not-kept-2.true)
       | then-not-kept-2-via-else-not-kept-2+then-n-eq0 w ↦ unasked _ _ w.if-n-eq0.true
@@ -170,51 +170,51 @@ returns-then-not-kept-2 c =
     rw c.tail_taken-then-not-kept-2.ensures
     (told
     (ap₂ (λ (end kept : Bool). tail_taken_of n true true true end kept (c.args.unpacked + 1)) c.none_left.ensures kept_is)
-    (tail_without c.args.term c.args.layout c.args.image.now c.args.found c.args.unpacked
-    (past c.args.term c.args.found c.full_blocks-blocks.ensures c.if-found-blocks.false) c.in-Some.behind c.uncompress_unsorted.new.values
+    (tail_without c.args.self.now.term c.args.self.now.layout c.args.self.now.image.now c.args.found c.args.unpacked
+    (past c.args.self.now.term c.args.found c.full_blocks-blocks.ensures c.if-found-blocks.false) c.in-Some.behind c.uncompress_unsorted.new.values
     (sym c.in-Some.is ∙ c.uncompress_unsorted.ensures.value) c.uncompress_unsorted.ensures.values_after _
     (ids_left n c.args.found.least ids c.first_as_difference-2.new.values c.first_as_difference-2.ensures) without))
 
-pub returns-then-term-eq0-2 : goal.returns-then-term-eq0-2
-returns-then-term-eq0-2 c =
-    let n : ℕ = c.args.term.count % 128 in
+pub returns-then-self-eq0-2 : goal.returns-then-self-eq0-2
+returns-then-self-eq0-2 c =
+    let n : ℕ = c.args.self.now.term.count % 128 in
     let ids : List ℕ = c.uncompress_unsorted.new.values ++ drop n (replicate 128 TERMINATED) in
-    let kept_is = keeps c.args.term c.args.layout (drop c.in-Some.behind c.args.image.now) c.full_blocks-blocks.ensures c.keeps_freqs-kept.ensures in
+    let kept_is = keeps c.args.self.now.term c.args.self.now.layout (drop c.in-Some.behind c.args.self.now.image.now) c.full_blocks-blocks.ensures c.keeps_freqs-kept.ensures in
     let has = asked_for _ n (sym kept_is ∙ c.if-not-kept-2.false) c.if-n-eq0.false in
     told
-    (c.tail_taken-then-term-eq0-2.ensures ∙ ap (λ (kept : Bool). tail_taken_of n true true true true kept (c.args.unpacked + 1)) kept_is)
-    (tail-unasked c.args.term c.args.layout c.args.image.now c.args.found c.args.unpacked
-    (past c.args.term c.args.found c.full_blocks-blocks.ensures c.if-found-blocks.false) c.in-Some.behind c.uncompress_unsorted.new.values
+    (c.tail_taken-then-self-eq0-2.ensures ∙ ap (λ (kept : Bool). tail_taken_of n true true true true kept (c.args.unpacked + 1)) kept_is)
+    (tail-unasked c.args.self.now.term c.args.self.now.layout c.args.self.now.image.now c.args.found c.args.unpacked
+    (past c.args.self.now.term c.args.found c.full_blocks-blocks.ensures c.if-found-blocks.false) c.in-Some.behind c.uncompress_unsorted.new.values
     (sym c.in-Some.is ∙ c.uncompress_unsorted.ensures.value) c.uncompress_unsorted.ensures.values_after _
-    (ids_left n c.args.found.least ids c.first_as_difference-2.new.values c.first_as_difference-2.ensures) has c.if-term-eq0-2.true)
+    (ids_left n c.args.found.least ids c.first_as_difference-2.new.values c.first_as_difference-2.ensures) has c.if-self-eq0-2.true)
 
 pub returns-in_default-uncompress_unsorted : goal.returns-in_default-uncompress_unsorted
 returns-in_default-uncompress_unsorted c =
-    let n : ℕ = c.args.term.count % 128 in
+    let n : ℕ = c.args.self.now.term.count % 128 in
     let ids : List ℕ = c.uncompress_unsorted.new.values ++ drop n (replicate 128 TERMINATED) in
-    let kept_is = keeps c.args.term c.args.layout (drop c.in-Some.behind c.args.image.now) c.full_blocks-blocks.ensures c.keeps_freqs-kept.ensures in
+    let kept_is = keeps c.args.self.now.term c.args.self.now.layout (drop c.in-Some.behind c.args.self.now.image.now) c.full_blocks-blocks.ensures c.keeps_freqs-kept.ensures in
     let has = asked_for _ n (sym kept_is ∙ c.if-not-kept-2.false) c.if-n-eq0.false in
     rw c.tail_taken-in_default-uncompress_unsorted.ensures
     (told
     (ap (λ (kept : Bool). tail_taken_of n true false true true kept (c.args.unpacked + 1)) kept_is)
-    (tail-freqs_broken c.args.term c.args.layout c.args.image.now c.args.found c.args.unpacked
-    (past c.args.term c.args.found c.full_blocks-blocks.ensures c.if-found-blocks.false) c.in-Some.behind c.uncompress_unsorted.new.values
+    (tail-freqs_broken c.args.self.now.term c.args.self.now.layout c.args.self.now.image.now c.args.found c.args.unpacked
+    (past c.args.self.now.term c.args.found c.full_blocks-blocks.ensures c.if-found-blocks.false) c.in-Some.behind c.uncompress_unsorted.new.values
     (sym c.in-Some.is ∙ c.uncompress_unsorted.ensures.value) c.uncompress_unsorted.ensures.values_after _
     (ids_left n c.args.found.least ids c.first_as_difference-2.new.values c.first_as_difference-2.ensures) has
-    (pos_of_ne-zero c.if-term-eq0-2.false) (sym c.in_default-uncompress_unsorted.is ∙ c.uncompress_unsorted-2.ensures.value)))
+    (pos_of_ne-zero c.if-self-eq0-2.false) (sym c.in_default-uncompress_unsorted.is ∙ c.uncompress_unsorted-2.ensures.value)))
 
 pub returns : goal.returns
 returns c =
-    let n : ℕ = c.args.term.count % 128 in
+    let n : ℕ = c.args.self.now.term.count % 128 in
     let ids : List ℕ = c.uncompress_unsorted.new.values ++ drop n (replicate 128 TERMINATED) in
-    let kept_is = keeps c.args.term c.args.layout (drop c.in-Some.behind c.args.image.now) c.full_blocks-blocks.ensures c.keeps_freqs-kept.ensures in
+    let kept_is = keeps c.args.self.now.term c.args.self.now.layout (drop c.in-Some.behind c.args.self.now.image.now) c.full_blocks-blocks.ensures c.keeps_freqs-kept.ensures in
     let has = asked_for _ n (sym kept_is ∙ c.if-not-kept-2.false) c.if-n-eq0.false in
     rw c.tail_taken-2.ensures
     (told
     (ap₂ (λ (end kept : Bool). tail_taken_of n true true false end kept (c.args.unpacked + 1)) c.none_left-2.ensures kept_is)
-    (tail_with c.args.term c.args.layout c.args.image.now c.args.found c.args.unpacked
-    (past c.args.term c.args.found c.full_blocks-blocks.ensures c.if-found-blocks.false) c.in-Some.behind c.uncompress_unsorted.new.values
+    (tail_with c.args.self.now.term c.args.self.now.layout c.args.self.now.image.now c.args.found c.args.unpacked
+    (past c.args.self.now.term c.args.found c.full_blocks-blocks.ensures c.if-found-blocks.false) c.in-Some.behind c.uncompress_unsorted.new.values
     (sym c.in-Some.is ∙ c.uncompress_unsorted.ensures.value) c.uncompress_unsorted.ensures.values_after _
     (ids_left n c.args.found.least ids c.first_as_difference-2.new.values c.first_as_difference-2.ensures) has
-    (pos_of_ne-zero c.if-term-eq0-2.false) _ _ (sym c.in-Some-uncompress_unsorted.is ∙ c.uncompress_unsorted-2.ensures.value)
+    (pos_of_ne-zero c.if-self-eq0-2.false) _ _ (sym c.in-Some-uncompress_unsorted.is ∙ c.uncompress_unsorted-2.ensures.value)
     c.uncompress_unsorted-2.ensures.values_after))

@@ -1,9 +1,9 @@
--- `segment_postings::arrays::unpack_found` meets its contract: what `load_block` leaves in the arrays is the cursor's, and its answer
+-- `segment_postings::layout::LaidImage::unpack_found` meets its contract: what `load_block` leaves in the arrays is the cursor's, and its answer
 -- with the numbers of the block found makes the cursor's numbers.
 -- Assumes nothing.
 use Rattle.segment_postings.proofs.Laws.Exits.{passed_on}
 use Rattle.segment_postings.proofs.Laws.LandingParts.{first, unpacked_there, unpacked_refused}
-use Rattle.segment_postings.proofs.arrays.unpack_found.Goals as goal
+use Rattle.segment_postings.proofs.layout.LaidImage.unpack_found.Goals as goal
 
 pub returns : goal.returns
 unfolding first

@@ -1,4 +1,4 @@
--- `segment_postings::validate::walk` meets its contract. The invariant of the blocks: what is read from the present block on has the
+-- `segment_postings::layout::LaidImage::walk` meets its contract. The invariant of the blocks: what is read from the present block on has the
 -- refusal of the whole reading. That of the ids of a block: those passed are in order, so that question 6 is answered by those to come.
 -- That of its frequencies: none passed is 0. A loop that is left from inside has come to the first question answered no.
 -- Assumes nothing.
@@ -32,8 +32,8 @@ use Rattle.segment_postings.proofs.validate.PlaceByPlace.{ZeroToCome, freqs_to_a
 use Rattle.segment_postings.proofs.load.BlockQuestions.{docs_broken, docs_fallen, docs-end_wrong, docs_right, freqs_broken, freqs_wrong, freqs-not-last, freqs_right}
 use Rattle.segment_postings.proofs.Admission.WalkReads.{walking, walking-from, reading_at, loaded_at-none, found-same, full-within}
 use Rattle.segment_postings.proofs.Admission.WalkReads.{reading-whole, reading_stops, stops_at-docs, stops_at-freqs, goes_on, ends-at-tail}
-use Rattle.segment_postings.proofs.validate.walk.Goals as goal
-use Rattle.segment_postings.proofs.validate.walk.Goals.{then-difference-eq0-via-then-difference-eq0, then-difference-eq0-via-else-difference-eq0+then-least}
+use Rattle.segment_postings.proofs.layout.LaidImage.walk.Goals as goal
+use Rattle.segment_postings.proofs.layout.LaidImage.walk.Goals.{then-difference-eq0-via-then-difference-eq0, then-difference-eq0-via-else-difference-eq0+then-least}
 
 -- what is still to come begins at the present place
 first-left : (i : ℕ) (vs : List ℕ) → i < length vs → drop i vs ≡ get_or vs i 0 ∷ drop (i + 1) vs
@@ -68,7 +68,7 @@ module _ {t : Term} {l : Layout} {bs : List ℕ} {b at least : ℕ} {f : Found} 
   asked-most e = omega (arith, e, freqs_to_ask_of-most k, h.taken.n_most)
 
   -- where the next one begins
-  next-at : FindsFrom t l bs (walking b at least) → {size : ℕ} → size ≡ block_size_of f.info → at + size ≤ length bs
+  next-at : FindsFrom t bs (walking b at least) → {size : ℕ} → size ≡ block_size_of f.info → at + size ≤ length bs
   next-at from e = omega (arith, e, (found-same _ _ _ _ _ _ h.found).1, (found-there _ _ _ _ _ from h.found).bytes)
 
   -- whose numbers of ids are there
@@ -121,22 +121,22 @@ module _ (k : Taken) (freqs : List ℕ) {fs : List ℕ} (known : k.freqs_nonzero
 pub blocks-2-init : goal.blocks-2-init
 blocks-2-init c = record {
   block_most_is = zero-le;
-  at_inside = (laid_out _ _ c.requires).inside;
+  at_inside = (laid_out _ _ c.args.self.now.laid_out).inside;
   least_most = zero-le;
-  same = ap (λ (r : Reading). r.verdict) (reading-whole _ _ _ c.requires);
+  same = ap (λ (r : Reading). r.verdict) (reading-whole _ _ _ c.args.self.now.laid_out);
 }
 
 pub overflow_cast-from : goal.overflow_cast-from
 overflow_cast-from c = omega arith
 
 pub find_block-requires : goal.find_block-requires
-find_block-requires c = walking-from _ _ _ c.requires c.blocks-2.invariant.block_most_is c.blocks-2.invariant.at_inside
+find_block-requires c = walking-from _ c.args.self.now.layout _ c.blocks-2.invariant.block_most_is c.blocks-2.invariant.at_inside
 
 pub take_values-taken-requires : goal.take_values-taken-requires
 take_values-taken-requires c =
-    let from = walking-from _ _ _ c.requires c.blocks-2.invariant.block_most_is c.blocks-2.invariant.at_inside in
+    let from = walking-from _ c.args.self.now.layout _ c.blocks-2.invariant.block_most_is c.blocks-2.invariant.at_inside in
     let found = (sym c.find_block.ensures ∙ c.in-Ok.is) in
-    (found-there _ _ _ _ _ from found, omega (arith, few c.args.term c.args.image.now c.requires c.blocks-2.invariant.block_most_is))
+    (found-there _ _ _ _ _ from found, omega (arith, few c.args.self.now.term c.args.self.now.image.now c.args.self.now.laid_out c.blocks-2.invariant.block_most_is))
 
 pub ids-init : goal.ids-init
 ids-init c = record {
@@ -185,8 +185,8 @@ counts-preserved c =
 pub overflow_add-at : goal.overflow_add-at
 overflow_add-at c =
     let h = at-block c.blocks-2.invariant.same c.find_block.ensures c.in-Ok.is c.take_values-taken.ensures in
-    let from = walking-from _ _ _ c.requires c.blocks-2.invariant.block_most_is c.blocks-2.invariant.at_inside in
-    let inside : c.blocks-2.at + c.block_size-at.result ≤ length c.args.image.now = next-at h from c.block_size-at.ensures in
+    let from = walking-from _ c.args.self.now.layout _ c.blocks-2.invariant.block_most_is c.blocks-2.invariant.at_inside in
+    let inside : c.blocks-2.at + c.block_size-at.result ≤ length c.args.self.now.image.now = next-at h from c.block_size-at.ensures in
     omega (arith, inside)
 
 pub blocks-2-smaller : goal.blocks-2-smaller
@@ -197,7 +197,7 @@ blocks-2-smaller c =
 pub blocks-2-preserved : goal.blocks-2-preserved
 blocks-2-preserved c =
     let h = at-block c.blocks-2.invariant.same c.find_block.ensures c.in-Ok.is c.take_values-taken.ensures in
-    let from = walking-from _ _ _ c.requires c.blocks-2.invariant.block_most_is c.blocks-2.invariant.at_inside in
+    let from = walking-from _ c.args.self.now.layout _ c.blocks-2.invariant.block_most_is c.blocks-2.invariant.at_inside in
     let there = not-false _ c.if-not-taken.false in
     let last = c.ids-test.false in
     let ends = sym c.ends_right.ensures ∙ c.if-not-ends_right.false in

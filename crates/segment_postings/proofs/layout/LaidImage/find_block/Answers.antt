@@ -1,4 +1,4 @@
--- `segment_postings::find::find_block` meets its contract. The invariant: the search from the present block on gives what the search
+-- `segment_postings::layout::LaidImage::find_block` meets its contract. The invariant: the search from the present block on gives what the search
 -- from the first gives, the present entry stands at its place of the skip bytes, and the block's bytes begin inside the image. An entry
 -- that passed question 5 has its block's bytes inside the image and a last id below TERMINATED, so neither the next place nor the next
 -- least id wraps. The measure is the blocks left. Assumes nothing.
@@ -16,7 +16,7 @@ use Rattle.segment_postings.specs.declared.find.Start.{Start}
 use Rattle.segment_postings.specs.Landing.{find_block_of}
 use Rattle.segment_postings.proofs.layout.SplitParts.{LaidOut, laid_out, entry-inside}
 use Rattle.segment_postings.proofs.find.FoundBlock.{passed, entry_of, find_broken, find_here, find_on, find_end}
-use Rattle.segment_postings.proofs.find.find_block.Goals as goal
+use Rattle.segment_postings.proofs.layout.LaidImage.find_block.Goals as goal
 
 module _ (t : Term) (l : Layout) (bs : List ℕ) where
   -- what the search from a start on gives, of `full` blocks in all
@@ -47,27 +47,27 @@ module _ (t : Term) (l : Layout) (bs : List ℕ) where
     next few = omega (arith, place, sized, size-most l.option, mul-le-mul_right b (size-most l.option))
 
 pub slice_bounds-skips-count : goal.slice_bounds-skips-count
-slice_bounds-skips-count c = (laid_out _ c.args.image.now c.requires.laid_out).rising
+slice_bounds-skips-count c = (laid_out _ c.args.self.now.image.now c.args.self.now.laid_out).rising
 
 pub slice_bounds-skips-start : goal.slice_bounds-skips-start
-slice_bounds-skips-start c = (laid_out _ c.args.image.now c.requires.laid_out).rising
+slice_bounds-skips-start c = (laid_out _ c.args.self.now.image.now c.args.self.now.laid_out).rising
 
 pub slice_bounds-skips-end : goal.slice_bounds-skips-end
-slice_bounds-skips-end c = (laid_out _ c.args.image.now c.requires.laid_out).inside
+slice_bounds-skips-end c = (laid_out _ c.args.self.now.image.now c.args.self.now.laid_out).inside
 
 pub overflow_mul-entry : goal.overflow_mul-entry
 unfolding full_blocks_of
 overflow_mul-entry c =
     rw c.entry_size-size.ensures
-    (omega (arith, c.requires.block_most_is, mul-le-mul_right c.args.from.block (size-most c.args.layout.option)))
+    (omega (arith, c.requires.block_most_is, mul-le-mul_right c.args.from.block (size-most c.args.self.now.layout.option)))
 
 pub entry_at-info-requires : goal.entry_at-info-requires
 unfolding skip_bytes_of full_blocks_of
 entry_at-info-requires c =
     let a = c.args in
     let l = c.loop-block in
-    room a.term a.layout a.image.now c.entry_size-size.result l.entry l.block c.entry_size-size.ensures l.invariant.place
-    (laid_out _ a.image.now c.requires.laid_out)
+    room a.self.now.term a.self.now.layout a.self.now.image.now c.entry_size-size.result l.entry l.block c.entry_size-size.ensures l.invariant.place
+    (laid_out _ a.self.now.image.now c.args.self.now.laid_out)
     (omega arith)
 
 pub returns-then-not-entry_fits : goal.returns-then-not-entry_fits
@@ -75,8 +75,8 @@ unfolding skip_bytes_of full_blocks_of
 returns-then-not-entry_fits c =
     let a = c.args in
     let l = c.loop-block in
-    let info = read a.term a.layout a.image.now c.entry_size-size.result l.entry l.block c.entry_size-size.ensures l.invariant.place c.entry_at-info.ensures in
-    come_to a.term a.layout a.image.now a.target _ a.from _ c.full_blocks-blocks.ensures l.invariant.goes_on
+    let info = read a.self.now.term a.self.now.layout a.self.now.image.now c.entry_size-size.result l.entry l.block c.entry_size-size.ensures l.invariant.place c.entry_at-info.ensures in
+    come_to a.self.now.term a.self.now.layout a.self.now.image.now a.target _ a.from _ c.full_blocks-blocks.ensures l.invariant.goes_on
     (find_broken _ _ _ _ _ (record { block = l.block; at = l.at; least = l.least; entries = l.entries; unpacked = a.from.unpacked }) c.entry_at-info.result
     c.loop-block-test.true info (sym c.entry_fits.ensures ∙ c.if-not-entry_fits.true))
 
@@ -88,8 +88,8 @@ unfolding skip_bytes_of full_blocks_of
 returns-then-target-info c =
     let a = c.args in
     let l = c.loop-block in
-    let info = read a.term a.layout a.image.now c.entry_size-size.result l.entry l.block c.entry_size-size.ensures l.invariant.place c.entry_at-info.ensures in
-    come_to a.term a.layout a.image.now a.target _ a.from _ c.full_blocks-blocks.ensures l.invariant.goes_on
+    let info = read a.self.now.term a.self.now.layout a.self.now.image.now c.entry_size-size.result l.entry l.block c.entry_size-size.ensures l.invariant.place c.entry_at-info.ensures in
+    come_to a.self.now.term a.self.now.layout a.self.now.image.now a.target _ a.from _ c.full_blocks-blocks.ensures l.invariant.goes_on
     (find_here _ _ _ _ _ (record { block = l.block; at = l.at; least = l.least; entries = l.entries; unpacked = a.from.unpacked }) c.entry_at-info.result
     c.loop-block-test.true info (sym c.entry_fits.ensures ∙ c.if-not-entry_fits.false) c.if-target-info.true)
 
@@ -102,14 +102,14 @@ overflow_add-entry c =
     let a = c.args in
     let l = c.loop-block in
     omega
-    (arith, next a.term a.layout a.image.now c.entry_size-size.result l.entry l.block c.entry_size-size.ensures l.invariant.place (omega arith))
+    (arith, next a.self.now.term a.self.now.layout a.self.now.image.now c.entry_size-size.result l.entry l.block c.entry_size-size.ensures l.invariant.place (omega arith))
 
 pub loop-block-preserved : goal.loop-block-preserved
 unfolding skip_bytes_of
 loop-block-preserved c =
     let a = c.args in
     let l = c.loop-block in
-    let info = read a.term a.layout a.image.now c.entry_size-size.result l.entry l.block c.entry_size-size.ensures l.invariant.place c.entry_at-info.ensures in
+    let info = read a.self.now.term a.self.now.layout a.self.now.image.now c.entry_size-size.result l.entry l.block c.entry_size-size.ensures l.invariant.place c.entry_at-info.ensures in
     let fits = sym c.entry_fits.ensures ∙ c.if-not-entry_fits.false in
     let size = c.block_size-at.ensures in
     let next_place = mul-suc c.entry_size-size.result l.block in
@@ -130,6 +130,6 @@ returns c =
     let l = c.loop-block in
     let last : l.block ≡ c.full_blocks-blocks.result = omega (arith, c.requires.block_most_is, c.full_blocks-blocks.ensures) in
     rw (← last)
-    (come_to a.term a.layout a.image.now a.target _ a.from _ c.full_blocks-blocks.ensures l.invariant.goes_on
+    (come_to a.self.now.term a.self.now.layout a.self.now.image.now a.target _ a.from _ c.full_blocks-blocks.ensures l.invariant.goes_on
     (find_end _ _ _ _ _ (record { block = l.block; at = l.at; least = l.least; entries = l.entries; unpacked = a.from.unpacked }) _
     c.loop-block-test.false c.tail_info.ensures))
