@@ -108,6 +108,8 @@ pub fn answer_at(
     Ok(shown_at(held, term, docs, freqs))
 }
 
+// Two arrays are lent, here and above: the calls on lent arrays have them so (document 01), and a struct of both would only be filled from them
+// and stored to them. They have a fixed length, and callers or the stack hold them: no heap is used.
 impl<'a> LaidImage<'a> {
     // Unpacks a block that was found, and goes to its first place: questions 6 to 9. What a refusal leaves in the arrays, here and in all that
     // goes by this, isn't told: whoever may not lose them lends two of its own.

@@ -54,7 +54,7 @@ fn entry_at(option: IndexRecordOption, skips: &[u8], at: usize) -> BlockInfo
 
 impl<'a> LaidImage<'a> {
     // From a block on, the first whose last id is at least the target, or the tail. Entries are read one by one, and each is asked question
-    // 5, that of a block passed over too.
+    // 5, that of a block passed over too. A range, since a block's number is what is answered, and its entry is read at that number.
     pub(crate) fn find_block(&self, target: u32, from: Start) -> Result<Found, Refusal>
         requires { FindsFrom self.now.term self.now.image.now from }
         ensures { result ≡ find_block_of self.now.layout.option (skip_bytes_of self.now.layout self.now.image.now) self.now.image.now target

@@ -17,6 +17,7 @@ use Rattle.segment_postings.specs.Landing.{find_block_of}
 use Rattle.segment_postings.proofs.layout.SplitParts.{LaidOut, laid_out, entry-inside}
 use Rattle.segment_postings.proofs.find.FoundBlock.{passed, entry_of, find_broken, find_here, find_on, find_end}
 use Rattle.segment_postings.proofs.layout.LaidImage.find_block.Goals as goal
+use Rattle.segment_postings.proofs.layout.LaidImage.find_block.Goals.{After-entry_at-info}
 
 module _ (t : Term) (l : Layout) (bs : List ℕ) where
   -- what the search from a start on gives, of `full` blocks in all
@@ -70,12 +71,20 @@ entry_at-info-requires c =
     (laid_out _ a.self.now.image.now c.args.self.now.laid_out)
     (omega arith)
 
+-- the entry at hand, as the definition reads it
+entry_read : (c : After-entry_at-info)
+    → c.entry_at-info.result ≡ entry_of c.args.self.now.layout.option (skip_bytes_of c.args.self.now.layout c.args.self.now.image.now) c.loop-block.block
+unfolding skip_bytes_of
+entry_read c =
+    read c.args.self.now.term c.args.self.now.layout c.args.self.now.image.now c.entry_size-size.result c.loop-block.entry c.loop-block.block c.entry_size-size.ensures
+    c.loop-block.invariant.place c.entry_at-info.ensures
+
 pub returns-then-not-entry_fits : goal.returns-then-not-entry_fits
 unfolding skip_bytes_of full_blocks_of
 returns-then-not-entry_fits c =
     let a = c.args in
     let l = c.loop-block in
-    let info = read a.self.now.term a.self.now.layout a.self.now.image.now c.entry_size-size.result l.entry l.block c.entry_size-size.ensures l.invariant.place c.entry_at-info.ensures in
+    let info = entry_read (goal.at.returns-then-not-entry_fits c).After-entry_at-info in
     come_to a.self.now.term a.self.now.layout a.self.now.image.now a.target _ a.from _ c.full_blocks-blocks.ensures l.invariant.goes_on
     (find_broken _ _ _ _ _ (record { block = l.block; at = l.at; least = l.least; entries = l.entries; unpacked = a.from.unpacked }) c.entry_at-info.result
     c.loop-block-test.true info (sym c.entry_fits.ensures ∙ c.if-not-entry_fits.true))
@@ -88,7 +97,7 @@ unfolding skip_bytes_of full_blocks_of
 returns-then-target-info c =
     let a = c.args in
     let l = c.loop-block in
-    let info = read a.self.now.term a.self.now.layout a.self.now.image.now c.entry_size-size.result l.entry l.block c.entry_size-size.ensures l.invariant.place c.entry_at-info.ensures in
+    let info = entry_read (goal.at.returns-then-target-info c).After-entry_at-info in
     come_to a.self.now.term a.self.now.layout a.self.now.image.now a.target _ a.from _ c.full_blocks-blocks.ensures l.invariant.goes_on
     (find_here _ _ _ _ _ (record { block = l.block; at = l.at; least = l.least; entries = l.entries; unpacked = a.from.unpacked }) c.entry_at-info.result
     c.loop-block-test.true info (sym c.entry_fits.ensures ∙ c.if-not-entry_fits.false) c.if-target-info.true)
@@ -109,7 +118,7 @@ unfolding skip_bytes_of
 loop-block-preserved c =
     let a = c.args in
     let l = c.loop-block in
-    let info = read a.self.now.term a.self.now.layout a.self.now.image.now c.entry_size-size.result l.entry l.block c.entry_size-size.ensures l.invariant.place c.entry_at-info.ensures in
+    let info = entry_read (goal.at.loop-block-preserved c).After-entry_at-info in
     let fits = sym c.entry_fits.ensures ∙ c.if-not-entry_fits.false in
     let size = c.block_size-at.ensures in
     let next_place = mul-suc c.entry_size-size.result l.block in

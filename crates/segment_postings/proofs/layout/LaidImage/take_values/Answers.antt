@@ -23,7 +23,7 @@ use Rattle.segment_postings.proofs.load.BlockQuestions.{full_differences}
 use Rattle.segment_postings.proofs.load.TakeValuesCases.{unpacked_from, values-small, full-docs, full_without, full_with}
 use Rattle.segment_postings.proofs.load.TakeValuesCases.{tail_broken, tail_without, tail-unasked, tail-freqs_broken, tail_with}
 use Rattle.segment_postings.proofs.layout.LaidImage.take_values.Goals as goal
-use Rattle.segment_postings.proofs.layout.LaidImage.take_values.Goals.{then-not-info, else-not-info, then-info, else-info}
+use Rattle.segment_postings.proofs.layout.LaidImage.take_values.Goals.{After-has_freq-kept, then-not-info, else-not-info, then-info, else-info}
 use Rattle.segment_postings.proofs.layout.LaidImage.take_values.Goals.{then-not-kept-via-then-not-kept, then-not-kept-via-else-not-kept+then-self-eq0}
 use Rattle.segment_postings.proofs.layout.LaidImage.take_values.Goals.{then-not-kept-2-via-then-not-kept-2, then-not-kept-2-via-else-not-kept-2+then-n-eq0}
 
@@ -92,11 +92,13 @@ told : {t : Term} {l : Layout} {bs : List ℕ} {f : Found} {unpacked : ℕ} {doc
     → k ≡ k' → ValuesTaken t l bs f unpacked docs freqs k' → ValuesTaken t l bs f unpacked docs freqs k
 told e v = rw e v
 
-pub returns-then-not-kept : goal.returns-then-not-kept
-returns-then-not-kept c =
+-- the ids of a full block, once they were taken
+docs_are : (c : After-has_freq-kept)
+    → c.if-not-info.docs ≡ full_differences c.args.found.info.strict c.args.found.least (unpack c.args.found.info.doc_width (drop c.args.found.at c.args.self.now.image.now))
+docs_are c =
     let room = full-room c.args.self.now.term c.args.found c.args.self.now.image.now c.requires.0 in
     let unpacked = ids_unpacked c.args.found c.args.self.now.image.now _ _ _ _ c.unpack.ensures c.reduction-more.ensures c.requires.0.doc_width (omega (arith, room)) in
-    let docs_are = ids_taken c.args.found c.args.self.now.image.now c.unpack.new.values c.if-not-info.docs c.requires.0.doc_width unpacked
+    ids_taken c.args.found c.args.self.now.image.now c.unpack.new.values c.if-not-info.docs c.requires.0.doc_width unpacked
     (λ strict. elim c.if-not-info.branch [
       | then-not-info w ↦ absurd (false≢true (sym w.if-not-info.true ∙ strict))
       | else-not-info w ↦ w.docs-is
@@ -104,7 +106,10 @@ returns-then-not-kept c =
     (λ plain. elim c.if-not-info.branch [
       | then-not-info w ↦ w.docs-is ∙ w.first_as_difference.ensures
       | else-not-info w ↦ absurd (false≢true (sym plain ∙ w.if-not-info.false))
-    ]) in
+    ])
+
+pub returns-then-not-kept : goal.returns-then-not-kept
+returns-then-not-kept c =
     let unwanted : and (has_freq_of c.args.self.now.layout.option) (ltb 0 c.args.self.now.term.requested) ≡ false
     = elim c.then-not-kept.branch [
       | then-not-kept-via-then-not-kept w ↦ unkept _ _ (sym c.has_freq-kept.ensures ∙ w.if-not-kept.true)
@@ -112,7 +117,7 @@ returns-then-not-kept c =
     ] in
     told (c.full_taken.ensures ∙ ap (λ (kept : Bool). full_taken_of c.args.found.info true kept (c.args.unpacked + 1)) c.has_freq-kept.ensures)
     (full_without c.args.self.now.term c.args.self.now.layout c.args.self.now.image.now c.args.found c.args.unpacked
-    (inside c.args.self.now.term c.args.found c.full_blocks-blocks.ensures c.if-found-blocks.true) c.requires.0.doc_width _ docs_are unwanted)
+    (inside c.args.self.now.term c.args.found c.full_blocks-blocks.ensures c.if-found-blocks.true) c.requires.0.doc_width _ (docs_are (goal.at.returns-then-not-kept c).After-has_freq-kept) unwanted)
 
 pub slice_bounds-unpack-count-then-found-blocks : goal.slice_bounds-unpack-count-then-found-blocks
 slice_bounds-unpack-count-then-found-blocks c = omega (arith, full-room c.args.self.now.term c.args.found c.args.self.now.image.now c.requires.0)
@@ -125,16 +130,6 @@ returns-then-found-blocks c =
     let f : Found = c.args.found in
     let bs : List ℕ = c.args.self.now.image.now in
     let room = full-room c.args.self.now.term c.args.found c.args.self.now.image.now c.requires.0 in
-    let unpacked = ids_unpacked c.args.found c.args.self.now.image.now _ _ _ _ c.unpack.ensures c.reduction-more.ensures c.requires.0.doc_width (omega (arith, room)) in
-    let docs_are = ids_taken c.args.found c.args.self.now.image.now c.unpack.new.values c.if-not-info.docs c.requires.0.doc_width unpacked
-    (λ strict. elim c.if-not-info.branch [
-      | then-not-info w ↦ absurd (false≢true (sym w.if-not-info.true ∙ strict))
-      | else-not-info w ↦ w.docs-is
-    ])
-    (λ plain. elim c.if-not-info.branch [
-      | then-not-info w ↦ w.docs-is ∙ w.first_as_difference.ensures
-      | else-not-info w ↦ absurd (false≢true (sym plain ∙ w.if-not-info.false))
-    ]) in
     let wanted = asked_for _ c.args.self.now.term.requested (sym c.has_freq-kept.ensures ∙ c.if-not-kept.false) c.if-self-eq0.false in
     let p : ℕ = f.at + c.compressed_block_size.result in
     let place : p ≡ f.at + 16 * f.info.doc_width = omega arith in
@@ -146,7 +141,7 @@ returns-then-found-blocks c =
     ] in
     told (c.full_taken-then-found-blocks.ensures ∙ ap (λ (kept : Bool). full_taken_of f.info c.if-info.full_taken kept (c.args.unpacked + 1)) c.has_freq-kept.ensures)
     (full_with c.args.self.now.term c.args.self.now.layout bs f c.args.unpacked
-    (inside c.args.self.now.term f c.full_blocks-blocks.ensures c.if-found-blocks.true) c.requires.0.doc_width _ docs_are _ p _ wanted ruled_out
+    (inside c.args.self.now.term f c.full_blocks-blocks.ensures c.if-found-blocks.true) c.requires.0.doc_width _ (docs_are (goal.at.returns-then-found-blocks c).After-has_freq-kept) _ p _ wanted ruled_out
     c.requires.0.freq_width place
     (freqs_are ∙ ap (λ (more : ℕ). map (with_more_of more) (unpack f.info.freq_width (drop p bs))) c.reduction-more.ensures))
 

@@ -33,6 +33,7 @@ use Rattle.segment_postings.proofs.load.BlockQuestions.{docs_broken, docs_fallen
 use Rattle.segment_postings.proofs.Admission.WalkReads.{walking, walking-from, reading_at, loaded_at-none, found-same, full-within}
 use Rattle.segment_postings.proofs.Admission.WalkReads.{reading-whole, reading_stops, stops_at-docs, stops_at-freqs, goes_on, ends-at-tail}
 use Rattle.segment_postings.proofs.layout.LaidImage.walk.Goals as goal
+use Rattle.segment_postings.proofs.layout.LaidImage.walk.Goals.{After-freqs_to_ask}
 use Rattle.segment_postings.proofs.layout.LaidImage.walk.Goals.{then-difference-eq0-via-then-difference-eq0, then-difference-eq0-via-else-difference-eq0+then-least}
 
 -- what is still to come begins at the present place
@@ -118,6 +119,15 @@ module _ (k : Taken) (freqs : List ℕ) {fs : List ℕ} (known : k.freqs_nonzero
   none-zero : {i : ℕ} → length fs ≤ i → ZeroToCome fs (drop i fs) → member 0 (take k.n freqs) ≡ false
   none-zero {i} last z = asked-same ∙ to_come_none fs (rw (none-left i fs last) at z)
 
+-- once the frequencies are asked the ids are right
+ids_right : (c : After-freqs_to_ask)
+    → asked_docs c.take_values-taken.result c.blocks-2.least c.take_values-taken.new.docs
+    ≡ Ok (ids_behind c.blocks-2.least (take c.take_values-taken.result.n c.take_values-taken.new.docs))
+ids_right c =
+    let h = at-block c.blocks-2.invariant.same c.find_block.ensures c.in-Ok.is c.take_values-taken.ensures in
+    docs-passed h (not-false _ c.if-not-taken.false) c.ids-test.false c.ids.invariant.least_some c.ids.invariant.ordered
+    (sym c.ends_right.ensures ∙ c.if-not-ends_right.false)
+
 pub blocks-2-init : goal.blocks-2-init
 blocks-2-init c = record {
   block_most_is = zero-le;
@@ -198,10 +208,8 @@ pub blocks-2-preserved : goal.blocks-2-preserved
 blocks-2-preserved c =
     let h = at-block c.blocks-2.invariant.same c.find_block.ensures c.in-Ok.is c.take_values-taken.ensures in
     let from = walking-from _ c.args.self.now.layout _ c.blocks-2.invariant.block_most_is c.blocks-2.invariant.at_inside in
-    let there = not-false _ c.if-not-taken.false in
-    let last = c.ids-test.false in
     let ends = sym c.ends_right.ensures ∙ c.if-not-ends_right.false in
-    let docs = docs-passed h there last c.ids.invariant.least_some c.ids.invariant.ordered ends in
+    let docs = ids_right (goal.at.blocks-2-preserved c).After-freqs_to_ask in
     let freqs = freqs_right _ _ (not-false _ c.if-not-taken-2.false) (none-zero _ _ c.take_values-taken.ensures.freqs_nonzero (asked-front _ c.take_values-taken.new.freqs c.freqs_to_ask.ensures) c.counts-test.false c.counts.invariant) (not-false _ c.if-not-taken-3.false) in
     let full = not-false _ c.if-not-taken-4.false in
     record {
@@ -254,10 +262,7 @@ returns-then-not-taken-2 c =
 pub returns-then-freq-eq0 : goal.returns-then-freq-eq0
 returns-then-freq-eq0 c =
     let h = at-block c.blocks-2.invariant.same c.find_block.ensures c.in-Ok.is c.take_values-taken.ensures in
-    let there = not-false _ c.if-not-taken.false in
-    let last = c.ids-test.false in
-    let ends = sym c.ends_right.ensures ∙ c.if-not-ends_right.false in
-    let docs = docs-passed h there last c.ids.invariant.least_some c.ids.invariant.ordered ends in
+    let docs = ids_right (goal.at.returns-then-freq-eq0 c).After-freqs_to_ask in
     let fs_are = asked-front _ c.take_values-taken.new.freqs c.freqs_to_ask.ensures in
     let to_come = rw (first-left c.counts.freq-index (take c.freqs_to_ask.result c.take_values-taken.new.freqs) c.counts-test.true) at c.counts.invariant in
     stops_behind h docs
@@ -267,19 +272,13 @@ returns-then-freq-eq0 c =
 pub returns-then-not-taken-3 : goal.returns-then-not-taken-3
 returns-then-not-taken-3 c =
     let h = at-block c.blocks-2.invariant.same c.find_block.ensures c.in-Ok.is c.take_values-taken.ensures in
-    let there = not-false _ c.if-not-taken.false in
-    let last = c.ids-test.false in
-    let ends = sym c.ends_right.ensures ∙ c.if-not-ends_right.false in
-    let docs = docs-passed h there last c.ids.invariant.least_some c.ids.invariant.ordered ends in
+    let docs = ids_right (goal.at.returns-then-not-taken-3 c).After-freqs_to_ask in
     stops_behind h docs
     (freqs-not-last _ _ (not-false _ c.if-not-taken-2.false) (none-zero _ _ c.take_values-taken.ensures.freqs_nonzero (asked-front _ c.take_values-taken.new.freqs c.freqs_to_ask.ensures) c.counts-test.false c.counts.invariant) (not-true _ c.if-not-taken-3.true))
 
 pub returns-then-not-taken-4 : goal.returns-then-not-taken-4
 returns-then-not-taken-4 c =
     let h = at-block c.blocks-2.invariant.same c.find_block.ensures c.in-Ok.is c.take_values-taken.ensures in
-    let there = not-false _ c.if-not-taken.false in
-    let last = c.ids-test.false in
-    let ends = sym c.ends_right.ensures ∙ c.if-not-ends_right.false in
-    let docs = docs-passed h there last c.ids.invariant.least_some c.ids.invariant.ordered ends in
+    let docs = ids_right (goal.at.returns-then-not-taken-4 c).After-freqs_to_ask in
     let freqs = freqs_right _ _ (not-false _ c.if-not-taken-2.false) (none-zero _ _ c.take_values-taken.ensures.freqs_nonzero (asked-front _ c.take_values-taken.new.freqs c.freqs_to_ask.ensures) c.counts-test.false c.counts.invariant) (not-false _ c.if-not-taken-3.false) in
     sym (h.same ∙ ends-at-tail _ _ _ _ _ _ h.found h.taken docs freqs (not-true _ c.if-not-taken-4.true))
