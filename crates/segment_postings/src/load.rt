@@ -1,7 +1,8 @@
 // A block taken out of an image, and questions 6 to 9 of document 01 asked of it.
 
-ghost use Rattle.std.specs.Prelude.{Ok, ◌≡◌, ◌+◌, ◌^◌, ◌<◌, true, false, length, take, drop, ◌==◌};
+ghost use Rattle.std.specs.Prelude.{Ok, ◌≡◌, ◌+◌, ◌^◌, ◌<◌, ◌≤◌, true, false, length, take, drop, ◌==◌};
 ghost use Rattle.format.specs.Basics.{and_then};
+ghost use Rattle.format.specs.Layout.{full_blocks_of};
 ghost use Rattle.format.specs.Model.{member};
 ghost use Rattle.format.specs.Reading.{keeps_freqs_of};
 ghost use Rattle.segment_postings.specs.Private.{FoundThere, BlockLoaded};
@@ -130,38 +131,51 @@ fn ask_freqs(taken: Taken, freqs: &[u32; 128]) -> Result<(), Refusal>
 }
 
 impl<'a> LaidImage<'a> {
-    // Takes the values of a block out of an image, and counts it. No other function does either. Ids are left as differences, frequencies as
-    // they are; of a tail whose ids aren't all there nothing is told of the ids' array.
-    pub(crate) fn take_values(
+    // Takes the values of a full block out of an image, and counts it.
+    fn take_full(
         &self,
         found: Found,
         unpacked: usize,
         docs: &mut [u32; 128],
         freqs: &mut [u32; 128],
     ) -> Taken
-        requires { FoundThere self.now.term self.now.image.now found × (unpacked + 1 < 2 ^ 64) }
+        requires { FoundThere self.now.term self.now.image.now found × (unpacked + 1 < 2 ^ 64) × (found.block < full_blocks_of self.now.term) }
+        ensures { ValuesTaken self.now.term self.now.layout self.now.image.now found unpacked docs.new freqs.new result }
+    {
+        let info = found.info;
+        let more = reduction(info.strict);
+        unpack(&self.image[found.at..], info.doc_width, more, docs);
+        if !info.strict {
+            first_as_difference(docs, found.least);
+        }
+        let kept = has_freq(self.layout.option);
+        if !kept || self.term.requested == 0 {
+            *freqs = [1; 128];
+            return full_taken(info, true, kept, unpacked + 1);
+        }
+        let behind = found.at + compressed_block_size(info.doc_width);
+        unpack(&self.image[behind..], info.freq_width, more, freqs);
+        full_taken(
+            info,
+            info.strict && info.freq_width < 32,
+            kept,
+            unpacked + 1,
+        )
+    }
+
+    // Takes those of the tail, and counts it; where its ids aren't all there nothing is told of the ids' array.
+    fn take_tail(
+        &self,
+        found: Found,
+        unpacked: usize,
+        docs: &mut [u32; 128],
+        freqs: &mut [u32; 128],
+    ) -> Taken
+        requires { FoundThere self.now.term self.now.image.now found × (unpacked + 1 < 2 ^ 64) × (full_blocks_of self.now.term ≤ found.block) }
         ensures { ValuesTaken self.now.term self.now.layout self.now.image.now found unpacked docs.new freqs.new result }
     {
         let image = self.image;
-        let option = self.layout.option;
-        let blocks = full_blocks(self.term.count);
         let counted = unpacked + 1;
-        if found.block < blocks {
-            let info = found.info;
-            let more = reduction(info.strict);
-            unpack(&image[found.at..], info.doc_width, more, docs);
-            if !info.strict {
-                first_as_difference(docs, found.least);
-            }
-            let kept = has_freq(option);
-            if !kept || self.term.requested == 0 {
-                *freqs = [1; 128];
-                return full_taken(info, true, kept, counted);
-            }
-            let behind = found.at + compressed_block_size(info.doc_width);
-            unpack(&image[behind..], info.freq_width, more, freqs);
-            return full_taken(info, info.strict && info.freq_width < 32, kept, counted);
-        }
         let n = self.term.count as usize % COMPRESSION_BLOCK_SIZE;
         let mut ids = [TERMINATED; 128];
         *freqs = [1; 128];
@@ -173,7 +187,8 @@ impl<'a> LaidImage<'a> {
         };
         first_as_difference(&mut ids[..n], found.least);
         *docs = ids;
-        let kept = keeps_freqs(option, blocks == 0, n, image, behind);
+        let alone = full_blocks(self.term.count) == 0;
+        let kept = keeps_freqs(self.layout.option, alone, n, image, behind);
         if !kept || n == 0 {
             return Taken {
                 ended: none_left(image, behind),
@@ -195,6 +210,26 @@ impl<'a> LaidImage<'a> {
             freqs_nonzero: false,
             ended: none_left(image, end),
             ..tail_taken(n, kept, counted)
+        }
+    }
+
+    // Takes the values of a block out of an image, and counts it, by one of the two above: nothing else does either. Ids are left as
+    // differences, frequencies as they are.
+    #[tactic(auto, unfolding(format::specs::Layout::full_blocks_of))]
+    pub(crate) fn take_values(
+        &self,
+        found: Found,
+        unpacked: usize,
+        docs: &mut [u32; 128],
+        freqs: &mut [u32; 128],
+    ) -> Taken
+        requires { FoundThere self.now.term self.now.image.now found × (unpacked + 1 < 2 ^ 64) }
+        ensures { ValuesTaken self.now.term self.now.layout self.now.image.now found unpacked docs.new freqs.new result }
+    {
+        if found.block < full_blocks(self.term.count) {
+            self.take_full(found, unpacked, docs, freqs)
+        } else {
+            self.take_tail(found, unpacked, docs, freqs)
         }
     }
 

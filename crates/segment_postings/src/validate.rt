@@ -44,10 +44,7 @@ impl<'a> LaidImage<'a> {
                 entries: block,
                 unpacked: block,
             };
-            let found = match self.find_block(0, from) {
-                Ok(found) => found,
-                Err(refusal) => break 'blocks Err(refusal),
-            };
+            let found = self.find_block(0, from)?;
             let taken = self.take_values(found, block, &mut docs, &mut freqs);
             if !taken.docs_there {
                 break 'blocks Err(Refusal::NumberBroken);

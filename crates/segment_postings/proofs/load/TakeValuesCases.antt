@@ -5,8 +5,8 @@
 -- Assumes nothing.
 use Rattle.std.specs.Prelude.{◌≡◌, ℕ, ◌+◌, ◌-◌, ◌*◌, ◌%◌, ◌^◌, ◌<◌, ◌≤◌, Bool, true, false, ◌&&◌ as and, eqb, ltb, List, ◌++◌, map, length, take, drop, replicate, None, Some}
 use mathlib.Core.Path.{refl, sym, ap, ◌∙◌}
-use mathlib.Core.Bool.{false≢true}
-use native.Mathlib.Nat.{le_refl, le_of_eq, mod-lt, pow-le-pow_right}
+use mathlib.Core.Bool.{and-false, false≢true}
+use native.Mathlib.Nat.{pos_of_ne-zero, le_refl, le_of_eq, mod-lt, pow-le-pow_right}
 use native.Mathlib.Omega.{arith}
 use lib.Dec.{lit<}
 use lib.ListN.{length-append, length-drop, length-map, length-replicate, replicate-append-replicate, drop_of_length-le}
@@ -69,6 +69,21 @@ module _ (n m a : ℕ) (few : n ≤ m) where
 
   drop-replicate : drop n (replicate m a) ≡ replicate (m - n) a
   drop-replicate = rw parted (drop_at (replicate n a) _ n (length-replicate n a))
+
+-- whether frequencies are taken
+pub unkept : (kept : Bool) (n : ℕ) → kept ≡ false → and kept (ltb 0 n) ≡ false
+unkept kept n h = rw h
+
+pub unasked : (kept : Bool) (n : ℕ) → n ≡ 0 → and kept (ltb 0 n) ≡ false
+unasked kept n h = rw (le-ltb 0 n (le_of_eq h)) (and-false kept)
+
+pub asked_for : (kept : Bool) (n : ℕ) → kept ≡ true → (n ≡ 0 → ⊥) → and kept (ltb 0 n) ≡ true
+asked_for kept n h some = rw h (lt-ltb 0 n (pos_of_ne-zero some))
+
+-- what was taken, by other words for it
+pub told : {t : Term} {l : Layout} {bs : List ℕ} {f : Found} {unpacked : ℕ} {docs freqs : List ℕ} {k k' : Taken}
+    → k ≡ k' → ValuesTaken t l bs f unpacked docs freqs k' → ValuesTaken t l bs f unpacked docs freqs k
+told e v = rw e v
 
 -- all its places are filled
 pub whole-up : (filler : ℕ) (values : List ℕ) → length values ≡ 128 → FilledUp 128 filler values

@@ -24,6 +24,7 @@ use Rattle.segment_postings.specs.declared.load.Taken.{Taken}
 use Rattle.segment_postings.specs.Private.{FindsFrom}
 use Rattle.segment_postings.specs.Landing.{find_block_of}
 use Rattle.segment_postings.specs.Taken.{ends_on, ends_before, asked_docs, asked_freqs, freqs_to_ask_of, ValuesTaken}
+use Rattle.segment_postings.proofs.Laws.Exits.{passed_on}
 use Rattle.segment_postings.proofs.Laws.BelowMark.{count_most}
 use Rattle.segment_postings.proofs.layout.SplitParts.{laid_out}
 use Rattle.segment_postings.proofs.find.FoundBlock.{found-there}
@@ -124,7 +125,7 @@ ids_right : (c : After-freqs_to_ask)
     → asked_docs c.take_values-taken.result c.blocks-2.least c.take_values-taken.new.docs
     ≡ Ok (ids_behind c.blocks-2.least (take c.take_values-taken.result.n c.take_values-taken.new.docs))
 ids_right c =
-    let h = at-block c.blocks-2.invariant.same c.find_block.ensures c.in-Ok.is c.take_values-taken.ensures in
+    let h = at-block c.blocks-2.invariant.same c.find_block.ensures c.in_ok-found.was c.take_values-taken.ensures in
     docs-passed h (not-false _ c.if-not-taken.false) c.ids-test.false c.ids.invariant.least_some c.ids.invariant.ordered
     (sym c.ends_right.ensures ∙ c.if-not-ends_right.false)
 
@@ -145,7 +146,7 @@ find_block-requires c = walking-from _ c.args.self.now.layout _ c.blocks-2.invar
 pub take_values-taken-requires : goal.take_values-taken-requires
 take_values-taken-requires c =
     let from = walking-from _ c.args.self.now.layout _ c.blocks-2.invariant.block_most_is c.blocks-2.invariant.at_inside in
-    let found = (sym c.find_block.ensures ∙ c.in-Ok.is) in
+    let found = (sym c.find_block.ensures ∙ c.in_ok-found.was) in
     (found-there _ _ _ _ _ from found, omega (arith, few c.args.self.now.term c.args.self.now.image.now c.args.self.now.laid_out c.blocks-2.invariant.block_most_is))
 
 pub ids-init : goal.ids-init
@@ -157,7 +158,7 @@ ids-init c = record {
 
 pub overflow_add-least : goal.overflow_add-least
 overflow_add-least c =
-    let h = at-block c.blocks-2.invariant.same c.find_block.ensures c.in-Ok.is c.take_values-taken.ensures in
+    let h = at-block c.blocks-2.invariant.same c.find_block.ensures c.in_ok-found.was c.take_values-taken.ensures in
     omega (arith, small h (not-false _ c.if-not-taken.false) c.ids.difference-index)
 
 pub ids-preserved : goal.ids-preserved
@@ -172,12 +173,12 @@ ids-preserved c =
 
 pub slice_bounds-freqs-end : goal.slice_bounds-freqs-end
 slice_bounds-freqs-end c =
-    let h = at-block c.blocks-2.invariant.same c.find_block.ensures c.in-Ok.is c.take_values-taken.ensures in
+    let h = at-block c.blocks-2.invariant.same c.find_block.ensures c.in_ok-found.was c.take_values-taken.ensures in
     omega (arith, asked-most h c.freqs_to_ask.ensures, c.take_values-taken.ensures.freqs_fill.long)
 
 pub slice_bounds-freq-items-end : goal.slice_bounds-freq-items-end
 slice_bounds-freq-items-end c =
-    let h = at-block c.blocks-2.invariant.same c.find_block.ensures c.in-Ok.is c.take_values-taken.ensures in
+    let h = at-block c.blocks-2.invariant.same c.find_block.ensures c.in_ok-found.was c.take_values-taken.ensures in
     let few : c.freqs_to_ask.result ≤ length c.take_values-taken.new.freqs
     = omega (arith, asked-most h c.freqs_to_ask.ensures, c.take_values-taken.ensures.freqs_fill.long) in
     omega (arith, length-take-le _ c.take_values-taken.new.freqs few)
@@ -194,19 +195,19 @@ counts-preserved c =
 -- the place behind a full block's bytes
 pub overflow_add-at : goal.overflow_add-at
 overflow_add-at c =
-    let h = at-block c.blocks-2.invariant.same c.find_block.ensures c.in-Ok.is c.take_values-taken.ensures in
+    let h = at-block c.blocks-2.invariant.same c.find_block.ensures c.in_ok-found.was c.take_values-taken.ensures in
     let from = walking-from _ c.args.self.now.layout _ c.blocks-2.invariant.block_most_is c.blocks-2.invariant.at_inside in
     let inside : c.blocks-2.at + c.block_size-at.result ≤ length c.args.self.now.image.now = next-at h from c.block_size-at.ensures in
     omega (arith, inside)
 
 pub blocks-2-smaller : goal.blocks-2-smaller
 blocks-2-smaller c =
-    let h = at-block c.blocks-2.invariant.same c.find_block.ensures c.in-Ok.is c.take_values-taken.ensures in
+    let h = at-block c.blocks-2.invariant.same c.find_block.ensures c.in_ok-found.was c.take_values-taken.ensures in
     omega (arith, full-within _ _ _ _ _ _ h.found h.taken (not-false _ c.if-not-taken-4.false))
 
 pub blocks-2-preserved : goal.blocks-2-preserved
 blocks-2-preserved c =
-    let h = at-block c.blocks-2.invariant.same c.find_block.ensures c.in-Ok.is c.take_values-taken.ensures in
+    let h = at-block c.blocks-2.invariant.same c.find_block.ensures c.in_ok-found.was c.take_values-taken.ensures in
     let from = walking-from _ c.args.self.now.layout _ c.blocks-2.invariant.block_most_is c.blocks-2.invariant.at_inside in
     let ends = sym c.ends_right.ensures ∙ c.if-not-ends_right.false in
     let docs = ids_right (goal.at.blocks-2-preserved c).After-freqs_to_ask in
@@ -219,19 +220,20 @@ blocks-2-preserved c =
       same = h.same ∙ goes_on _ _ _ _ _ _ h.found h.taken docs freqs full c.block_size-at.ensures (ends-full _ _ _ full ends);
     }
 
-pub returns-in-Err : goal.returns-in-Err
-returns-in-Err c =
-    let none = sym c.find_block.ensures ∙ c.in-Err.is in
-    sym (c.blocks-2.invariant.same ∙ reading_stops _ _ _ _ _ _ (loaded_at-none _ _ _ _ _ _ none))
+pub returns-in_err-found : goal.returns-in_err-found
+returns-in_err-found c =
+    let none = sym c.find_block.ensures ∙ c.in_err-found.was in
+    rw (passed_on c.from_residual.ensures.1)
+    (sym (c.blocks-2.invariant.same ∙ reading_stops _ _ _ _ _ _ (loaded_at-none _ _ _ _ _ _ none)))
 
 pub returns-then-not-taken : goal.returns-then-not-taken
 returns-then-not-taken c =
-    let h = at-block c.blocks-2.invariant.same c.find_block.ensures c.in-Ok.is c.take_values-taken.ensures in
+    let h = at-block c.blocks-2.invariant.same c.find_block.ensures c.in_ok-found.was c.take_values-taken.ensures in
     stops h (docs_broken _ _ _ (not-true _ c.if-not-taken.true))
 
 pub returns-then-difference-eq0 : goal.returns-then-difference-eq0
 returns-then-difference-eq0 c =
-    let h = at-block c.blocks-2.invariant.same c.find_block.ensures c.in-Ok.is c.take_values-taken.ensures in
+    let h = at-block c.blocks-2.invariant.same c.find_block.ensures c.in_ok-found.was c.take_values-taken.ensures in
     let there = not-false _ c.if-not-taken.false in
     let first = first-left c.ids.difference-index (take c.take_values-taken.result.n c.take_values-taken.new.docs) c.ids-test.true in
     let ordered = rw first at c.ids.invariant.ordered in
@@ -244,7 +246,7 @@ returns-then-difference-eq0 c =
 
 pub returns-then-not-ends_right : goal.returns-then-not-ends_right
 returns-then-not-ends_right c =
-    let h = at-block c.blocks-2.invariant.same c.find_block.ensures c.in-Ok.is c.take_values-taken.ensures in
+    let h = at-block c.blocks-2.invariant.same c.find_block.ensures c.in_ok-found.was c.take_values-taken.ensures in
     let there = not-false _ c.if-not-taken.false in
     let last = c.ids-test.false in
     let wrong = ends h there last c.ids.invariant.least_some c.ids.invariant.ordered ∙ (sym c.ends_right.ensures ∙ c.if-not-ends_right.true) in
@@ -252,7 +254,7 @@ returns-then-not-ends_right c =
 
 pub returns-then-not-taken-2 : goal.returns-then-not-taken-2
 returns-then-not-taken-2 c =
-    let h = at-block c.blocks-2.invariant.same c.find_block.ensures c.in-Ok.is c.take_values-taken.ensures in
+    let h = at-block c.blocks-2.invariant.same c.find_block.ensures c.in_ok-found.was c.take_values-taken.ensures in
     let there = not-false _ c.if-not-taken.false in
     let last = c.ids-test.false in
     let ends = sym c.ends_right.ensures ∙ c.if-not-ends_right.false in
@@ -261,7 +263,7 @@ returns-then-not-taken-2 c =
 
 pub returns-then-freq-eq0 : goal.returns-then-freq-eq0
 returns-then-freq-eq0 c =
-    let h = at-block c.blocks-2.invariant.same c.find_block.ensures c.in-Ok.is c.take_values-taken.ensures in
+    let h = at-block c.blocks-2.invariant.same c.find_block.ensures c.in_ok-found.was c.take_values-taken.ensures in
     let docs = ids_right (goal.at.returns-then-freq-eq0 c).After-freqs_to_ask in
     let fs_are = asked-front _ c.take_values-taken.new.freqs c.freqs_to_ask.ensures in
     let to_come = rw (first-left c.counts.freq-index (take c.freqs_to_ask.result c.take_values-taken.new.freqs) c.counts-test.true) at c.counts.invariant in
@@ -271,14 +273,14 @@ returns-then-freq-eq0 c =
 
 pub returns-then-not-taken-3 : goal.returns-then-not-taken-3
 returns-then-not-taken-3 c =
-    let h = at-block c.blocks-2.invariant.same c.find_block.ensures c.in-Ok.is c.take_values-taken.ensures in
+    let h = at-block c.blocks-2.invariant.same c.find_block.ensures c.in_ok-found.was c.take_values-taken.ensures in
     let docs = ids_right (goal.at.returns-then-not-taken-3 c).After-freqs_to_ask in
     stops_behind h docs
     (freqs-not-last _ _ (not-false _ c.if-not-taken-2.false) (none-zero _ _ c.take_values-taken.ensures.freqs_nonzero (asked-front _ c.take_values-taken.new.freqs c.freqs_to_ask.ensures) c.counts-test.false c.counts.invariant) (not-true _ c.if-not-taken-3.true))
 
 pub returns-then-not-taken-4 : goal.returns-then-not-taken-4
 returns-then-not-taken-4 c =
-    let h = at-block c.blocks-2.invariant.same c.find_block.ensures c.in-Ok.is c.take_values-taken.ensures in
+    let h = at-block c.blocks-2.invariant.same c.find_block.ensures c.in_ok-found.was c.take_values-taken.ensures in
     let docs = ids_right (goal.at.returns-then-not-taken-4 c).After-freqs_to_ask in
     let freqs = freqs_right _ _ (not-false _ c.if-not-taken-2.false) (none-zero _ _ c.take_values-taken.ensures.freqs_nonzero (asked-front _ c.take_values-taken.new.freqs c.freqs_to_ask.ensures) c.counts-test.false c.counts.invariant) (not-false _ c.if-not-taken-3.false) in
     sym (h.same ∙ ends-at-tail _ _ _ _ _ _ h.found h.taken docs freqs (not-true _ c.if-not-taken-4.true))
