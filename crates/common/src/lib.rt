@@ -14,6 +14,7 @@ pub fn within(at: usize, size: usize, len: usize) -> bool
 }
 
 // Copies `bytes` into `area` from place `at` on: the place behind them. Where they don't fit, nothing is written.
+#[tactic(auto, unfolding(format::specs::Basics::next_at, format::specs::Basics::put_at, format::specs::Basics::fits_at, format::specs::Basics::choose))]
 pub fn put(bytes: &[u8], area: &mut [u8], at: usize) -> Option<usize>
     ensures next { result ≡ next_at at bytes.now area.old }
     ensures area { area.new ≡ put_at at bytes.now area.old }
@@ -36,6 +37,7 @@ pub fn u32_from_le_bytes(a: u8, b: u8, c: u8, d: u8) -> u32
 }
 
 // The bytes of a number, lowest first.
+#[tactic(auto, unfolding(format::specs::Basics::le32))]
 pub fn u32_to_le_bytes(x: u32) -> [u8; 4]
     ensures { result ≡ le32 x }
 {

@@ -2,10 +2,10 @@
 -- is all of them, `rest` those still to come.
 -- Assumes nothing.
 use Rattle.std.specs.Prelude.{Bool, true, false, Some}
-use mathlib.Core.Path.{◌≡◌, refl, sym, ap, ◌∙◌}
+use mathlib.Core.Path.{◌≡◌, sym, ap, ◌∙◌}
 use mathlib.Core.List.{List, [], ◌∷◌, ◌++◌}
 use Prim.Native.Nat.{ℕ, ◌+◌, ◌*◌, ◌^◌, ◌≤◌, ◌<◌}
-use native.Mathlib.Nat.{zero-add, add-zero}
+use native.Mathlib.Nat.{add-zero}
 use native.Mathlib.Omega.{arith}
 use lib.ListN.{length, get_or, drop, drop_of_length-le}
 use Rattle.format.specs.Basics.{put_at, next_at}
@@ -33,9 +33,6 @@ pub record Counted (whole rest : List ℕ) (i size : ℕ) : Type 0 where
   pub total : size + length (vints rest) ≡ length (vints whole)
   pub small : size ≤ 5 * i
 
-pub counted_none : (whole : List ℕ) → Counted whole whole 0 0
-counted_none whole = record { total = zero-add _; small = omega arith }
-
 pub counted_next : {whole rest rest' : List ℕ} {i size v : ℕ} → rest ≡ v ∷ rest' → v < 2 ^ 32 → Counted whole rest i size
     → Counted whole rest' (i + 1) (size + length (vint v))
 counted_next {rest'} {v} e h c = record {
@@ -52,9 +49,6 @@ pub record Written (whole rest : List ℕ) (at next : ℕ) (area₀ area : List 
   pub place : next + length (vints rest) ≡ at + length (vints whole)
   pub put : put_at next (vints rest) area ≡ put_at at (vints whole) area₀
   pub kept : length area ≡ length area₀
-
-pub written_none : (whole area : List ℕ) (at : ℕ) → at + length (vints whole) ≤ length area → Written whole whole at at area area
-written_none whole area at h = record { room = h; place = refl; put = refl; kept = refl }
 
 -- .. with one value more
 module _ {whole rest rest' : List ℕ} {at next v : ℕ} {area₀ area : List ℕ} (e : rest ≡ v ∷ rest') (w : Written whole rest at next area₀ area) where

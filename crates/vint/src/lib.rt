@@ -38,7 +38,8 @@ fn read_vint(src: &[u8], at: usize, most: usize, largest: u64) -> Option<(u64, u
     None
 }
 
-// A tail's number.
+// A tail's number. This and a skip length are public calls of their own: only here stands which limits each kind has.
+#[tactic(auto, unfolding(format::specs::Vint::tail_number))]
 pub fn read_vint_u32(src: &[u8], at: usize) -> Option<(u64, usize)>
     ensures { result ≡ tail_number (drop at src.now) }
 {
@@ -46,6 +47,7 @@ pub fn read_vint_u32(src: &[u8], at: usize) -> Option<(u64, usize)>
 }
 
 // A skip length.
+#[tactic(auto, unfolding(format::specs::Vint::skip_length))]
 pub fn read_vint_u64(src: &[u8], at: usize) -> Option<(u64, usize)>
     ensures { result ≡ skip_length (drop at src.now) }
 {
@@ -83,6 +85,7 @@ fn put_vint(value: u64, dst: &mut [u8], at: usize) -> usize
 }
 
 // The bytes of `value` from `at` on, where they fit.
+#[tactic(auto, unfolding(format::specs::Basics::next_at, format::specs::Basics::put_at, format::specs::Basics::fits_at, format::specs::Basics::choose))]
 pub fn write_vint(value: u64, dst: &mut [u8], at: usize) -> Option<usize>
     ensures value { result ≡ next_at at (vint value) dst.old }
     ensures dst_after { dst.new ≡ put_at at (vint value) dst.old }
@@ -94,6 +97,7 @@ pub fn write_vint(value: u64, dst: &mut [u8], at: usize) -> Option<usize>
 }
 
 // What is written of a value: of sorted ones the difference to the one before, of others the value itself.
+#[tactic(auto, unfolding(crate::specs::Written::number_written))]
 fn written_number<const SORTED: bool>(previous: u32, value: u32) -> u32
     ensures { result ≡ number_written SORTED previous value }
 {
@@ -118,6 +122,7 @@ fn size_of<const SORTED: bool>(values: &[u32], offset: u32) -> usize
 }
 
 // The numbers of `values` from `at` on, where all of them fit.
+#[tactic(auto, unfolding(format::specs::Basics::next_at, format::specs::Basics::put_at, format::specs::Basics::fits_at, format::specs::Basics::choose))]
 fn compress<const SORTED: bool>(
     values: &[u32],
     offset: u32,
@@ -140,6 +145,7 @@ fn compress<const SORTED: bool>(
 }
 
 // How many bytes the differences of `docs` take, the first from `offset`.
+#[tactic(auto, unfolding(crate::specs::Written::numbers_written))]
 pub fn sorted_size(docs: &[u32], offset: u32) -> usize
     ensures { result ≡ length (vints (gaps_from 0 offset docs.now)) }
 {
@@ -147,13 +153,16 @@ pub fn sorted_size(docs: &[u32], offset: u32) -> usize
 }
 
 // How many bytes `values` take.
+#[tactic(auto, unfolding(crate::specs::Written::numbers_written))]
 pub fn unsorted_size(values: &[u32]) -> usize
     ensures { result ≡ length (vints values.now) }
 {
     size_of::<false>(values, 0)
 }
 
-// The differences of `docs`, the first from `offset`, from `at` on, where all of them fit.
+// The differences of `docs`, the first from `offset`, from `at` on, where all of them fit. This and the next stay public calls of a line
+// each, as the sizes above: callers say by a name what they write, and their contracts by a definition without a flag.
+#[tactic(auto, unfolding(crate::specs::Written::numbers_written))]
 pub fn compress_sorted(docs: &[u32], offset: u32, dst: &mut [u8], at: usize) -> Option<usize>
     ensures value { result ≡ next_at at (vints (gaps_from 0 offset docs.now)) dst.old }
     ensures dst_after { dst.new ≡ put_at at (vints (gaps_from 0 offset docs.now)) dst.old }
@@ -162,6 +171,7 @@ pub fn compress_sorted(docs: &[u32], offset: u32, dst: &mut [u8], at: usize) -> 
 }
 
 // `values` from `at` on, where all of them fit.
+#[tactic(auto, unfolding(crate::specs::Written::numbers_written))]
 pub fn compress_unsorted(values: &[u32], dst: &mut [u8], at: usize) -> Option<usize>
     ensures value { result ≡ next_at at (vints values.now) dst.old }
     ensures dst_after { dst.new ≡ put_at at (vints values.now) dst.old }

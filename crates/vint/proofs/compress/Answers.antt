@@ -1,15 +1,6 @@
 -- `vint::compress` meets its contract: the size is asked first, and a turn puts the number of one value more.
-use Rattle.common.proofs.Fits.{fits_not, fits-room}
-use Rattle.vint.proofs.Runs.{numbers-next, numbers-end, written_none, written-room, written_next, written-end}
+use Rattle.vint.proofs.Runs.{numbers-next, numbers-end, written-room, written_next, written-end}
 use Rattle.vint.proofs.compress.Goals as goal
-
-pub returns-then-not-within : goal.returns-then-not-within
-returns-then-not-within g c =
-    let p = fits_not c.args.at _ _ c.args.dst.now c.size_of.ensures _ c.within.ensures c.if-not-within.true in
-    record { value = p.0; dst_after = p.1 }
-
-pub loop-value-init : goal.loop-value-init
-loop-value-init g c = written_none _ _ _ (fits-room c.args.at _ _ c.args.dst.now c.size_of.ensures _ c.within.ensures c.if-not-within.false)
 
 pub put_vint-next-requires : goal.put_vint-next-requires
 put_vint-next-requires g c =
