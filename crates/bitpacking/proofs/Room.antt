@@ -1,7 +1,7 @@
--- When a packed block has room, as the code tests it, and the two outcomes of packing and unpacking.
+-- When a packed block has room, as the code tests it, and what packing and unpacking leave where it has.
 -- Assumes nothing.
 use mathlib.Core.Path.{◌≡◌, refl, sym, ap, ◌∙◌}
-use mathlib.Core.Bool.{true, false, and-eq-true_iff}
+use mathlib.Core.Bool.{true, and-eq-true_iff}
 use mathlib.Core.List.{List, ◌++◌, map}
 use Prim.Native.Nat.{ℕ, ◌*◌, ◌≤◌}
 use borrow.Author.Tests.{leb-true, le-leb}
@@ -22,19 +22,11 @@ pub room-there : (w n : ℕ) → room_for w n ≡ true → (w ≤ 32) × (16 * w
 unfolding room_for
 room-there w n e = let p = (and-eq-true_iff (leb w 32) (leb (16 * w) n)).0 e in (leb-true _ _ p.0, leb-true _ _ p.1)
 
-pub not_unpacked : (w more : ℕ) (bytes values : List ℕ) → room_for w (length bytes) ≡ false → Unpacked w more bytes values values false
-unfolding choose
-not_unpacked w more bytes values e = record { answer = rw e; values = rw e }
-
 pub unpacked :
     (w more : ℕ) (bytes before after : List ℕ) → room_for w (length bytes) ≡ true → after ≡ map (with_more_of more) (unpack w bytes)
     → Unpacked w more bytes before after true
 unfolding choose
 unpacked w more bytes before after e same = record { answer = rw e; values = rw e same }
-
-pub not-packed : (w : ℕ) (values area : List ℕ) → room_for w (length area) ≡ false → Packed w values area area false
-unfolding choose
-not-packed w values area e = record { answer = rw e; bytes = rw e }
 
 filled-pack : (w : ℕ) (values area : List ℕ) → filled (16 * w) (packed_at w values) area ≡ pack w values ++ drop (16 * w) area
 unfolding filled pack

@@ -1,8 +1,10 @@
 // 128 values at one width, in four lanes of 32-bit words: `BitPacker4x` of the Rust crate bitpacking, whose packed form document 01 gives.
+// Blocks, rows and lanes are arrays of a fixed length, since no heap is used. Loops and closures over rows and lanes go by their numbers: each
+// reads or writes at several places that its number gives, and no element stands there to go over.
 
 #![tactic(auto)]
 
-ghost use Rattle.std.specs.Prelude.{◌≡◌, ℕ, ◌+◌, ◌-◌, ◌*◌, ◌%◌, ◌^◌, ◌≤◌, ◌<◌, map, length};
+ghost use Rattle.std.specs.Prelude.{◌≡◌, ℕ, ◌+◌, ◌*◌, ◌%◌, ◌^◌, ◌≤◌, ◌<◌, map, length};
 ghost use Rattle.format.specs.Basics.{four_bytes, tabulate};
 ghost use Rattle.format.specs.Bitpacking.{packed_at, bits_f, width};
 ghost use Rattle.format.specs.Bitpacking as packing;
@@ -29,6 +31,7 @@ struct Left {
 }
 
 // The words from byte p on, nothing taken of them.
+#[tactic(auto, using(crate::proofs::Filled::four_of), unfolding(crate::specs::Packed::words_from, format::specs::Basics::word))]
 fn words_at(bytes: &[u8], p: usize) -> Left
     requires { p + 16 ≤ length bytes.now }
     ensures { result ≡ words_from bytes.now p }
@@ -41,7 +44,8 @@ fn words_at(bytes: &[u8], p: usize) -> Left
     }
 }
 
-// What is left behind the next k bits of each lane.
+// What is left behind the next k bits of each lane. `words_taken` is of the same form, but its lanes are of 64 bits, and it counts words.
+#[tactic(auto, unfolding(crate::specs::Packed::bits_taken_of))]
 fn bits_taken(left: Left, k: u32) -> Left
     requires { (k ≤ left.bits) × (k < 32) }
     ensures { result ≡ bits_taken_of k left }
@@ -55,6 +59,7 @@ fn bits_taken(left: Left, k: u32) -> Left
 }
 
 // The lowest w bits.
+#[tactic(auto, using(crate::proofs::Shifts::masked_lowest))]
 fn lowest(x: u32, w: u32) -> u32
     requires { (1 ≤ w) × (w ≤ 32) }
     ensures { result ≡ x % 2 ^ w }
@@ -64,6 +69,7 @@ fn lowest(x: u32, w: u32) -> u32
 
 // The value of w bits that begins with what is left of a lane, so many bits, and goes on in the lane's next word. What the shift drops
 // lies above it.
+#[tactic(auto, using(crate::proofs::Shifts::joined))]
 fn value_across(rest: u32, word: u32, bits: u32, w: u32) -> u32
     requires { (rest < 2 ^ bits) × (bits < 32) × (1 ≤ w) × (w ≤ 32) }
     ensures { result ≡ (rest + word * 2 ^ bits) % 2 ^ w }
@@ -80,6 +86,7 @@ fn low(x: u64) -> u32
 
 // Four items side by side from place p on. `copy_from_slice` compiles to more: the four go by the stack, with a test whether they overlap
 // the list.
+#[tactic(auto, using(crate::proofs::Filled::fill_four, crate::proofs::Filled::at_four))]
 fn put_four<T: Copy>(list: &mut [T], p: usize, four: [T; 4])
     requires { p + 4 ≤ length list.old }
     ensures { (f : ℕ → T) → four ≡ tabulate 4 (λ m. f (p + m)) → Fills p (p + 4) f list.old list.new }
@@ -91,6 +98,7 @@ fn put_four<T: Copy>(list: &mut [T], p: usize, four: [T; 4])
 }
 
 // Four values side by side from place p on, `more` added to each.
+#[tactic(auto, unfolding(crate::specs::Packed::with_more_of))]
 fn put_row(values: &mut [u32], p: usize, row: [u32; 4], more: u32)
     requires { p + 4 ≤ length values.old }
     ensures { (f : ℕ → ℕ) → map (with_more_of more) row ≡ tabulate 4 (λ m. f (p + m)) → Fills p (p + 4) f values.old values.new }
@@ -130,7 +138,8 @@ fn unpack_row(
     bits_taken(bits_taken(next, w - bits - 1), 1)
 }
 
-// All rows of a block whose values have bits.
+// All rows of a block whose values have bits. `pack_rows`, its inverse, is of the same form, but what a turn does and passes on is another.
+#[tactic(auto, using(crate::proofs::Filled::fill_none, crate::proofs::Rows::none_left))]
 fn unpack_rows(bytes: &[u8], w: usize, more: u32, values: &mut [u32; 128])
     requires { BlockThere w bytes.now }
     ensures { values.new ≡ map (with_more_of more) (packing.unpack w bytes.now) }
@@ -146,6 +155,7 @@ fn unpack_rows(bytes: &[u8], w: usize, more: u32, values: &mut [u32; 128])
 }
 
 // Whether a block of width w is within n bytes: the width is at most 32, with 16 bytes for each bit of it.
+#[tactic(auto, unfolding(crate::specs::Packed::room_for))]
 fn has_room(w: usize, n: usize) -> bool
     ensures { result ≡ room_for w n }
 {
@@ -154,6 +164,7 @@ fn has_room(w: usize, n: usize) -> bool
 
 // Reads the 128 values of the block that begins `bytes`, adds `more` to each, modulo 2 ^ 32, and answers whether the block is there.
 // Where it isn't, `values` stays as it was.
+#[tactic(auto, using(crate::proofs::Room::unpacked), unfolding(crate::specs::Packed::room_for, format::specs::Basics::choose))]
 pub fn unpack(bytes: &[u8], width: u8, more: u32, values: &mut [u32; 128]) -> bool
     ensures { Unpacked width more bytes.now values.old values.new result }
 {
@@ -187,6 +198,7 @@ struct Lanes {
 }
 
 // A value's lowest w bits, above the `bits` that a lane holds.
+#[tactic(auto, using(crate::proofs::Shifts::one_shifted, crate::proofs::Shifts::masked_shift))]
 fn with_value(lane: u64, value: u32, bits: usize, w: usize) -> u64
     requires { (lane < 2 ^ 32) × (bits < 32) × (w ≤ 32) }
     ensures { result ≡ lane + value % 2 ^ w * 2 ^ bits }
@@ -205,6 +217,7 @@ fn put_words(area: &mut [u8], p: usize, words: [u32; 4])
 }
 
 // The lanes with their lowest word taken off.
+#[tactic(auto, unfolding(crate::specs::Packed::words_taken_of))]
 fn words_taken(lanes: Lanes) -> Lanes
     requires { (32 ≤ lanes.bits) × (lanes.words < 32) }
     ensures { result ≡ words_taken_of lanes }
@@ -262,6 +275,7 @@ fn pack_rows(values: &[u32; 128], w: usize, area: &mut [u8])
 
 // Packs 128 values at a width into the front of the area, 16 bytes for each bit; of a value its lowest bits count. Answers whether
 // that was done; an area without room, or one for a width above 32, stays as it was.
+#[tactic(auto, unfolding(crate::specs::Packed::room_for, format::specs::Basics::choose))]
 pub fn pack(values: &[u32; 128], width: u8, area: &mut [u8]) -> bool
     ensures { Packed width values.now area.old area.new result }
 {
@@ -275,6 +289,7 @@ pub fn pack(values: &[u32; 128], width: u8, area: &mut [u8]) -> bool
 
 // The bits that any of some numbers has, as a number: it has as many bits as the largest of them. `|` of four numbers is one instruction,
 // and the larger of unsigned ones takes several.
+#[tactic(auto, using(crate::proofs::Width::bits_of_all))]
 fn bits_of_any(values: &[u32]) -> u32
     ensures { bits_f 32 result ≡ width values.now }
 {
@@ -282,6 +297,7 @@ fn bits_of_any(values: &[u32]) -> u32
 }
 
 // The width of 128 values: the bits of the largest, 0 if all are 0.
+#[tactic(auto, using(crate::proofs::Width::bits_are))]
 pub fn num_bits(values: &[u32; 128]) -> u8
     ensures { result ≡ width values.now }
 {

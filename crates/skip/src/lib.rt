@@ -121,6 +121,7 @@ pub fn write_entry(
     if 32 <= info.doc_width {
         return None;
     }
+    // an array of the larger entry's length, of which the other kind's is the front: no heap is used
     let [a, b, c, d] = u32_to_le_bytes(info.last_doc);
     let bytes = [a, b, c, d, width_byte(info), info.freq_width, 0, 0];
     put(&bytes[..entry_size(option)], area, at)

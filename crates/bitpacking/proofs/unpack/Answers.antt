@@ -1,12 +1,12 @@
 -- `bitpacking::unpack` meets its contract. Values of width 0 have no bits, so that each is 0, and `more` once that is added.
 use Rattle.std.proofs.Common.{◌≡◌, sym, ap, ◌∙◌, ℕ, List, map, ◌<◌, ◌^◌}
-use Rattle.std.proofs.Math.Nat.{pos_of_ne-zero, zero-add, mod-eq_of_lt}
+use Rattle.std.proofs.Math.Nat.{zero-add, mod-eq_of_lt}
 use Rattle.std.proofs.Math.ListN.{replicate}
 use Rattle.format.specs.Bitpacking.{unpack}
 use Rattle.format.proofs.Lists.{AllBelow-one}
 use Rattle.format.proofs.Bitpacking.{unpack-length, unpack-below}
 use Rattle.bitpacking.specs.Packed.{with_more_of}
-use Rattle.bitpacking.proofs.Room.{room-there, not_unpacked, unpacked}
+use Rattle.bitpacking.proofs.Room.{unpacked}
 use Rattle.bitpacking.proofs.unpack.Goals as goal
 
 -- nothing but zeros at width 0
@@ -19,18 +19,7 @@ unfolding with_more_of
 nothing_but_more more bytes h =
     ap (replicate 128) (sym (rw (zero-add more) (mod-eq_of_lt h))) ∙ ap (map (with_more_of more)) (zeros bytes)
 
-pub returns-then-not-has_room : goal.returns-then-not-has_room
-returns-then-not-has_room c = not_unpacked _ _ _ _ (sym c.has_room.ensures ∙ c.if-not-has_room.true)
-
-pub unpack_rows-requires : goal.unpack_rows-requires
-unpack_rows-requires c =
-    let r = room-there _ _ (sym c.has_room.ensures ∙ c.if-not-has_room.false) in
-    record { some_bits = pos_of_ne-zero c.if-w-eq0.false; w_most = r.0; room = r.1 }
-
 pub returns-then-w-eq0 : goal.returns-then-w-eq0
 returns-then-w-eq0 c =
     unpacked _ _ _ _ _ (sym c.has_room.ensures ∙ c.if-not-has_room.false)
     (nothing_but_more c.args.more _ c.ranges.more.fits ∙ ap (λ (w : ℕ). map (with_more_of c.args.more) (unpack w c.args.bytes.now)) (sym c.if-w-eq0.true))
-
-pub returns-else-w-eq0 : goal.returns-else-w-eq0
-returns-else-w-eq0 c = unpacked _ _ _ _ _ (sym c.has_room.ensures ∙ c.if-not-has_room.false) c.unpack_rows.ensures
