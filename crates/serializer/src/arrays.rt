@@ -27,7 +27,8 @@ impl Progress {
     }
 }
 
-// Begins a term: its mode, 0 or 1, and whether its frequencies are recorded. What the arrays hold doesn't matter.
+// Begins a term: its mode, 0 or 1, and whether its frequencies are recorded. A caller may hand in any number as the mode: question 1 refuses
+// the others, which an enum would leave to callers. What the arrays hold doesn't matter.
 pub fn new_term_in(mode: u8, recording: bool) -> Result<Progress, Refusal>
     ensures { result ≡ progressed (λ _. fresh mode recording) (begin mode recording) }
 {
@@ -86,11 +87,11 @@ pub fn close_term_in(
         };
     }
     let answer = progress.put_term(docs, freqs, skips, postings, output);
-    match answer {
-        Ok(_) => ClosedIn {
-            answer,
-            progress: Progress::fresh(progress.mode, progress.recording),
+    ClosedIn {
+        answer,
+        progress: match answer {
+            Ok(_) => Progress::fresh(progress.mode, progress.recording),
+            Err(_) => progress,
         },
-        Err(_) => ClosedIn { answer, progress },
     }
 }

@@ -16,7 +16,7 @@ use format::{BlockInfo, IndexRecordOption, Refusal};
 use skip::{block_size, entry_size, has_freq, write_entry};
 
 // Places in the two areas, for a block's entry and for its values.
-#[derive(Clone, Copy)]
+#[derive(Clone, Copy, Debug, PartialEq, Eq)]
 pub struct Places {
     pub skips: usize,
     pub postings: usize,

@@ -1,5 +1,5 @@
 // Question 16 of document 01: whether the numbers of a lent state are in bounds. It is asked of every waiting document at each call, so
-// its loops have no branch inside: they become vector code.
+// its loops have no branch inside: they become vector code. Each no is a return of its own, since the proof goes by which test said it.
 
 ghost use Rattle.std.specs.Prelude.{◌≡◌, ℕ, ◌<◌, ◌≤◌, not, ◌&&◌ as and, ◌||◌ as or, List, length, take};
 ghost use Rattle.format.specs.Accepted.{kept_in};
@@ -31,7 +31,7 @@ fn climbs(docs: &[u32]) -> bool
 {
     let mut above = true;
     for i in 1..docs.len() {
-        above = above & (docs[i - 1] < docs[i]);
+        above &= docs[i - 1] < docs[i];
     }
     above
 }
@@ -43,7 +43,8 @@ fn climbs_counted(docs: &[u32], freqs: &[u32]) -> bool
 {
     let mut holds = freqs[0] != 0;
     for i in 1..docs.len() {
-        holds = holds & (docs[i - 1] < docs[i]) & (freqs[i] != 0);
+        holds &= docs[i - 1] < docs[i];
+        holds &= freqs[i] != 0;
     }
     holds
 }
@@ -54,7 +55,7 @@ fn documents_wait(option: IndexRecordOption, docs: &[u32], freqs: &[u32], least:
     requires { length docs.now ≡ length freqs.now }
     ensures { result ≡ and (rising least docs.now) (or (not (has_freq_of option)) (countable freqs.now)) }
 {
-    if docs.len() == 0 {
+    if docs.is_empty() {
         return true;
     }
     if (docs[0] as u64) < least {

@@ -32,14 +32,7 @@ pub(crate) struct Image<'a> {
 fn parts_fit(len: usize, head: usize, postings: usize, docs: usize, freqs: usize) -> bool
     ensures { result ≡ nat_le (head + (postings + (docs + freqs))) len }
 {
-    if len < head {
-        return false;
-    }
-    let left = len - head;
-    if left < postings {
-        return false;
-    }
-    within(docs, freqs, left - postings)
+    head <= len && postings <= len - head && within(docs, freqs, len - head - postings)
 }
 
 impl<'a> Image<'a> {
@@ -144,17 +137,14 @@ impl Progress {
         ensures { ImagePut (image_of (state_of self docs.now freqs.now) skips.now postings.now)
             output.old output.new result }
     {
-        let waiting = self.waiting;
-        let skips_at = self.skips_at;
-        let postings_at = self.postings_at;
         let image = Image {
             full: self.taken as usize / 128,
-            skips: &skips[..skips_at],
-            postings: &postings[..postings_at],
+            skips: &skips[..self.skips_at],
+            postings: &postings[..self.postings_at],
             option: self.option(),
             offset: self.tail_offset(),
-            docs: front(docs, waiting),
-            freqs: front(freqs, waiting),
+            docs: front(docs, self.waiting),
+            freqs: front(freqs, self.waiting),
         };
         image.put(output)
     }

@@ -1,4 +1,5 @@
 // The writer: documents and frequencies in, the bytes of one term's image out. The port of serializer.rs.
+// Arrays have a fixed length, and areas and the output are lent, since no heap is used.
 
 #![tactic(auto)]
 
@@ -18,7 +19,7 @@ use format::Refusal;
 pub use list::{ask_list, write_list};
 
 // A term being written. Finished blocks and their entries lie in two areas that the caller lends to each call.
-#[derive(Clone, Copy)]
+#[derive(Clone, Copy, Debug, PartialEq, Eq)]
 pub struct PostingsSerializer {
     // The documents that wait for their block to fill, and their frequencies.
     pub docs: [u32; 128],
@@ -37,14 +38,14 @@ pub struct PostingsSerializer {
 }
 
 // Whether a term was begun or a document taken, with the state after it.
-#[derive(Clone, Copy)]
+#[derive(Clone, Copy, Debug, PartialEq, Eq)]
 pub struct Step {
     pub answer: Result<(), Refusal>,
     pub state: PostingsSerializer,
 }
 
 // What closing a term answers, the image's length, with the state after it.
-#[derive(Clone, Copy)]
+#[derive(Clone, Copy, Debug, PartialEq, Eq)]
 pub struct ClosedTerm {
     pub answer: Result<usize, Refusal>,
     pub state: PostingsSerializer,
@@ -52,8 +53,9 @@ pub struct ClosedTerm {
 
 // The numbers of a state, without the documents that wait: what a call on two lent arrays takes and gives. They stand in the state one by
 // one, since its fields are public.
-#[derive(Clone, Copy)]
+#[derive(Clone, Copy, Debug, PartialEq, Eq)]
 pub struct Progress {
+    // A number, for the same reason as a state's.
     pub mode: u8,
     pub recording: bool,
     pub waiting: usize,
@@ -64,7 +66,7 @@ pub struct Progress {
 }
 
 // What closing a term from two lent arrays answers, with the numbers after it.
-#[derive(Clone, Copy)]
+#[derive(Clone, Copy, Debug, PartialEq, Eq)]
 pub struct ClosedIn {
     pub answer: Result<usize, Refusal>,
     pub progress: Progress,
@@ -91,7 +93,7 @@ impl From<PostingsSerializer> for Progress {
 }
 
 impl Progress {
-    // Puts a state together again.
+    // Puts a state together again, with the two arrays that `from` leaves out.
     fn with_arrays(self, docs: [u32; 128], freqs: [u32; 128]) -> PostingsSerializer
         ensures { result ≡ state_of self docs freqs }
     {
@@ -119,19 +121,13 @@ impl PostingsSerializer {
 }
 
 // Begins a term: its mode, 0 or 1, and whether its frequencies are recorded.
+#[tactic(auto, unfolding(crate::specs::Calls::beginning, crate::specs::Calls::accepted, crate::specs::Calls::progressed, format::specs::Accepted::begin, format::specs::Basics::ask))]
 pub fn new_term(mode: u8, recording: bool) -> Step
     ensures { result ≡ beginning mode recording }
 {
-    let state = PostingsSerializer::fresh(mode, recording);
-    match new_term_in(mode, recording) {
-        Ok(_) => Step {
-            answer: Ok(()),
-            state,
-        },
-        Err(refusal) => Step {
-            answer: Err(refusal),
-            state,
-        },
+    Step {
+        answer: new_term_in(mode, recording).map(|_| ()),
+        state: PostingsSerializer::fresh(mode, recording),
     }
 }
 
@@ -177,23 +173,20 @@ pub fn close_term(
 ) -> ClosedTerm
     ensures { Closed state announced skips.now postings.now output.old output.new result }
 {
-    let docs = state.docs;
-    let freqs = state.freqs;
     let closed = close_term_in(
         state.into(),
         announced,
-        &docs,
-        &freqs,
+        &state.docs,
+        &state.freqs,
         skips,
         postings,
         output,
     );
-    let answer = closed.answer;
-    match answer {
-        Ok(_) => ClosedTerm {
-            answer,
-            state: PostingsSerializer::fresh(state.mode, state.recording),
+    ClosedTerm {
+        answer: closed.answer,
+        state: match closed.answer {
+            Ok(_) => PostingsSerializer::fresh(state.mode, state.recording),
+            Err(_) => state,
         },
-        Err(_) => ClosedTerm { answer, state },
     }
 }

@@ -1,6 +1,6 @@
 // A whole list in one call. All questions are asked before a byte is written, so that a refusal leaves everything lent as it was.
 
-ghost use Rattle.std.specs.Prelude.{◌≡◌, ◌+◌, ◌*◌, ◌/◌, ◌≤◌, true, length, take, drop};
+ghost use Rattle.std.specs.Prelude.{◌≡◌, ◌*◌, ◌/◌, ◌≤◌, true, length, take};
 ghost use Rattle.format.specs.Bitpacking.{width};
 ghost use Rattle.format.specs.SkipEntry.{entry_size_of};
 ghost use Rattle.format.specs.Accepted.{kept_in, take_docs, written};
@@ -56,7 +56,7 @@ fn check_docs(option: IndexRecordOption, ids: &[u32], freqs: &[u32]) -> Result<u
     Ok(least)
 }
 
-// Questions 1, 14 of slices of different length, and 11 to 13.
+// Questions 1, 14 of slices of different length, and 11 to 13. The mode is any number that a caller hands in, and is asked about here.
 fn ask_docs<'a>(
     mode: u8,
     recording: bool,
@@ -151,22 +151,19 @@ impl<'a> WholeList<'a> {
         ensures { bytes_of result ≡ image_from self.now.option self.now.ids.now self.now.freqs.now
             (take sizes.entries skips.now) (take sizes.blocks postings.now) }
     {
-        let entries = sizes.entries;
-        let blocks = sizes.blocks;
         let tail = self.tail();
-        let at = tail.at;
         Image {
             full: tail.full,
-            skips: &skips[..entries],
-            postings: &postings[..blocks],
+            skips: &skips[..sizes.entries],
+            postings: &postings[..sizes.blocks],
             option: self.option,
             offset: tail.offset,
-            docs: &self.ids[at..],
-            freqs: &self.freqs[at..],
+            docs: &self.ids[tail.at..],
+            freqs: &self.freqs[tail.at..],
         }
     }
 
-    // Question 15, of the sizes.
+    // Question 15, of the sizes. Each no is a return of its own, since the proof goes by which area has no room.
     fn fits(&self, sizes: Sizes, skips: &[u8], postings: &[u8], len: usize) -> bool
         requires { ListSized self.now.option self.now.ids.now self.now.freqs.now sizes }
         ensures { result ≡ list_fits_of self.now.option self.now.ids.now self.now.freqs.now skips.now postings.now len }
