@@ -3,7 +3,7 @@
 -- f s (v ∷ vs) ≡ out s v ∷ f (next s v) vs. What the loop leaves at its end is then the same told from any turn on, which is the loop's
 -- invariant, `Replacing`. Behind that: n places of a list, where n may be larger than the list is long.
 -- Assumes nothing.
-use mathlib.Core.Path.{◌≡◌, refl, ◌∙◌, sym}
+use mathlib.Core.Path.{◌≡◌, ◌∙◌, sym}
 use mathlib.Core.List.{List, [], ◌∷◌, ◌++◌, append-nil}
 use Prim.Native.Nat.{ℕ, suc, ◌+◌, ◌≤◌, ◌<◌, min}
 use native.Mathlib.Decide.{dec_le}
@@ -16,9 +16,6 @@ use lib.Seq.{drop-cons, take_all, take-suc-set, drop-set-lt, append_snoc}
 pub record Replacing {S : Type 0} (f : S → List ℕ → List ℕ) (s₀ : S) (l₀ : List ℕ) (s : S) (i : ℕ) (l : List ℕ) : Type 0 where
   pub long : length l ≡ length l₀
   pub leaves : f s₀ l₀ ≡ take i l ++ f s (drop i l)
-
-pub replacing_none : {S : Type 0} (f : S → List ℕ → List ℕ) (s : S) (l : List ℕ) → Replacing f s l s 0 l
-replacing_none f s l = record { long = refl; leaves = refl }
 
 -- one value more
 module _ {S : Type 0} (f : S → List ℕ → List ℕ) (out : S → ℕ → ℕ) (next : S → ℕ → S)

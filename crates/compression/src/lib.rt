@@ -1,5 +1,5 @@
 // The values of a block and their packed size: the port of compression/mod.rs, less the packer (crate bitpacking) and the tail's
-// numbers (crate vint).
+// numbers (crate vint). A block's values are arrays of a fixed length, lent by the caller, since no heap is used.
 
 #![tactic(auto)]
 

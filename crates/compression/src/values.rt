@@ -1,6 +1,6 @@
 // A block's ids and frequencies, and the values that stand for them in the strict form and in the non-strict one.
 
-ghost use Rattle.std.specs.Prelude.{◌≡◌, true, ◌+◌, ◌-◌, ◌≤◌, ◌<◌, ◌^◌, min, length, take};
+ghost use Rattle.std.specs.Prelude.{◌≡◌, true, ◌+◌, ◌-◌, ◌≤◌, ◌<◌, ◌^◌, length, take};
 ghost use Rattle.format.specs.Model.{member};
 ghost use Rattle.format.specs.Values as specs;
 ghost use Rattle.compression.specs.Restored.{ending, first_difference_of, as_differences, Summed, DocsRestored};

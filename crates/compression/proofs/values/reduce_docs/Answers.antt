@@ -8,7 +8,7 @@ use borrow.Rule.Slice.PartMut.{put_mid, mid_of}
 use Rattle.std.proofs.Math.ListN.{set}
 use Rattle.std.proofs.Math.Seq.{take_all}
 use Rattle.format.specs.Values.{gaps, gaps_from, reduction, origin}
-use Rattle.compression.proofs.InPlace.{replacing_none, replacing_next, replacing_all}
+use Rattle.compression.proofs.InPlace.{replacing_next, replacing_all}
 use Rattle.compression.proofs.values.reduce_docs.Goals as goal
 
 turns : (s v : ℕ) (vs : List ℕ) → gaps_from 1 s (v ∷ vs) ≡ (v - s) ∷ gaps_from 1 (v + 1) vs
@@ -23,9 +23,6 @@ unfolding gaps reduction origin gaps_from
 joined least [] items long is = absurd (omega arith)
 joined least (d ∷ ds) items long is =
     rw (is, take_all 127 ds (omega arith), drop_of_length-le ds {i = 127} (omega arith)) (ap (λ (l : List ℕ). (d - least) ∷ l) (append-nil _))
-
-pub loop-value-init : goal.loop-value-init
-loop-value-init c = replacing_none (gaps_from 1) _ _
 
 pub loop-value-preserved : goal.loop-value-preserved
 loop-value-preserved c =

@@ -2,16 +2,13 @@
 -- Assumes nothing.
 use Rattle.std.proofs.Common.{◌≡◌, refl, ℕ, List, ◌∷◌, ◌-◌, arith}
 use Rattle.format.specs.Values.{reduced, reduction}
-use Rattle.compression.proofs.InPlace.{replacing_none, replacing_next, replacing_all}
+use Rattle.compression.proofs.InPlace.{replacing_next, replacing_all}
 use Rattle.compression.proofs.values.reduce_freqs.Invariants.{each}
 use Rattle.compression.proofs.values.reduce_freqs.Goals as goal
 
 turns : (s : Unit {0}) (f : ℕ) (fs : List ℕ) → each s (f ∷ fs) ≡ (f - 1) ∷ each s fs
 unfolding reduced reduction
 turns s f fs = refl
-
-pub loop-value-init : goal.loop-value-init
-loop-value-init c = replacing_none each tt _
 
 pub loop-value-preserved : goal.loop-value-preserved
 loop-value-preserved c =

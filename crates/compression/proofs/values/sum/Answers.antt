@@ -8,7 +8,7 @@ use Rattle.std.proofs.Math.Seq.{drop-cons, drop-set-lt}
 use Rattle.format.specs.Basics.{last_of}
 use Rattle.format.specs.Values.{ids_from}
 use Rattle.compression.specs.Restored.{in_place}
-use Rattle.compression.proofs.InPlace.{replacing_none, replacing_next, replacing_all}
+use Rattle.compression.proofs.InPlace.{replacing_next, replacing_all}
 use Rattle.compression.proofs.values.sum.Invariants.{sums, last_sum}
 use Rattle.compression.proofs.values.sum.Goals as goal
 
@@ -23,9 +23,6 @@ last_turn s i o l h = rw (add-one, drop-cons l i 0 h, drop-set-lt (suc i) l i o 
 last_end : (s i : ℕ) (l : List ℕ) → length l ≤ i → last_sum s (drop i l) ≡ s
 unfolding ids_from last_of
 last_end s i l h = rw (drop_of_length-le l h)
-
-pub loop-value-init : goal.loop-value-init
-loop-value-init c = record { replaced = replacing_none sums _ _; bounded = omega arith; same = refl }
 
 pub loop-value-preserved : goal.loop-value-preserved
 loop-value-preserved c =
