@@ -1,20 +1,19 @@
 -- The layout of a case, question by question; and the replay of the cases, opened by one turn.
 -- Assumes nothing.
-use Rattle.std.specs.Prelude.{None, Some, option_and_then, is_ok}
-use mathlib.Core.Bool.{Bool, true, false, not, ◌&&◌ as and, and-eq-true_iff}
+use Rattle.std.specs.Prelude.{None, Some, option_and_then}
+use mathlib.Core.Bool.{Bool, true, false, ◌&&◌ as and, and-eq-true_iff}
 use mathlib.Core.List.{List, [], ◌∷◌, ◌++◌}
 use mathlib.Core.Path.{◌≡◌, refl, sym, ◌∙◌}
 use Prim.Native.Nat.{ℕ, zero, suc, ◌+◌, ◌-◌, ◌*◌, ◌≤◌, ◌<◌}
 use native.Mathlib.Omega.{arith}
 use borrow.Author.Tests.{le-leb, lt-leb, leb-true, eq-eqb, ne_eqb}
-use lib.Dec.{eqb, leb}
-use lib.ListN.{length, take, drop, get_or}
+use lib.Dec.{leb}
+use lib.ListN.{length}
 use Rattle.format.specs.Basics.{choose, tabulate_from, tabulate, word}
-use Rattle.format.specs.Reading.{soundness}
 use Rattle.format.proofs.Tabulate.{tabulate-more}
 use Rattle.vectors.specs.declared.sample.Case.{Case}
 use Rattle.vectors.specs.Sample.{short, words, case_of, case_at}
-use Rattle.vectors.specs.Replay.{zeros, writes_image, reads_back_of, agrees, Within, case_agrees, count_differing, replay_from, replayed}
+use Rattle.vectors.specs.Replay.{agrees, Within, case_agrees, count_differing, replay_from, replayed}
 
 module _ (bs : List ℕ) (p : ℕ) where
   -- the three questions
@@ -24,40 +23,6 @@ module _ (bs : List ℕ) (p : ℕ) where
   case_at-is : case_at bs p ≡ choose there (λ _. Some (case_of bs p)) (λ _. None)
   unfolding case_at
   case_at-is = refl
-
-  pub no_head : length bs < p + 6 → case_at bs p ≡ None
-  unfolding choose
-  no_head h = rw (case_at-is, lt-leb (p + 6) (length bs) h)
-
-  module _ (head : p + 6 ≤ length bs) where
-    pub too_long : 512 < (case_of bs p).count → case_at bs p ≡ None
-    unfolding choose
-    too_long h = rw (case_at-is, le-leb (p + 6) (length bs) head, lt-leb (case_of bs p).count 512 h)
-
-    module _ (few : (case_of bs p).count ≤ 512) where
-      pub cut_off : length bs < (case_of bs p).end → case_at bs p ≡ None
-      unfolding choose
-      cut_off h = rw (case_at-is, le-leb (p + 6) (length bs) head, le-leb (case_of bs p).count 512 few, lt-leb (case_of bs p).end (length bs) h)
-
-      pub all_there : (case_of bs p).end ≤ length bs → case_at bs p ≡ Some (case_of bs p)
-      unfolding choose
-      all_there h = rw (case_at-is, le-leb (p + 6) (length bs) head, le-leb (case_of bs p).count 512 few, le-leb (case_of bs p).end (length bs) h)
-
--- the same, by its numbers
-abbrev pub case_with : List ℕ → ℕ → ℕ → ℕ → Case
-case_with bs p count size = record {
-  mode = get_or bs p 0;
-  recording = not (eqb (get_or bs (p + 1) 0) 0);
-  count = count;
-  docs = p + 6;
-  freqs = p + 6 + 4 * count;
-  image = p + 6 + 4 * count + 4 * count;
-  end = p + 6 + 4 * count + 4 * count + size;
-}
-
-pub case-with : (bs : List ℕ) (p count size : ℕ) → count ≡ short bs (p + 2) → size ≡ short bs (p + 4) → case_with bs p count size ≡ case_of bs p
-unfolding case_of
-case-with bs p count size e f = rw (e, f)
 
 -- one number more
 pub words_more : (bs : List ℕ) (p n : ℕ) → words bs p (n + 1) ≡ words bs p n ++ (word bs (p + 4 * n) ∷ [])
@@ -127,21 +92,6 @@ module _ (bs : List ℕ) where
     pub replay_left : (p ≡ length bs → ⊥) → replay_from bs cases 0 p differ ≡ None
     unfolding replay_from choose
     replay_left h = rw (ne_eqb p (length bs) h)
-
--- ---- one case
-
-pub agrees-is : (mode : ℕ) (recording : Bool) (ds fs image : List ℕ)
-    → agrees mode recording ds fs image
-    ≡ and (writes_image mode recording ds fs image (zeros 32) (zeros 4032) (zeros 8192))
-    (and (reads_back_of mode recording ds fs image) (is_ok (soundness mode (length ds) image)))
-unfolding agrees
-agrees-is mode recording ds fs image = refl
-
-pub case_agrees-is : (bs : List ℕ) (c : Case)
-    → case_agrees bs c
-    ≡ agrees c.mode c.recording (words bs c.docs c.count) (words bs c.freqs c.count) (take (c.end - c.image) (drop c.image bs))
-unfolding case_agrees
-case_agrees-is bs c = refl
 
 -- what a case adds
 pub count_same : (agrees : Bool) (differ : ℕ) → agrees ≡ true → count_differing agrees differ ≡ differ

@@ -6,13 +6,15 @@
 //
 // The file `stdin` was made by `cargo run --release --bin sample` in differential/, which has tantivy's own code, unchanged, write
 // the images.
+//
+// Buffers are arrays, with room for the longest that is taken: no heap is used.
 
 #![tactic(auto)]
 
 mod replay;
 mod sample;
 
-ghost use Rattle.std.specs.Prelude.{◌≡◌, length};
+ghost use Rattle.std.specs.Prelude.{◌≡◌};
 ghost use Rattle.vectors.specs.Replay.{replayed};
 
 use crate::replay::replay_case;
@@ -28,12 +30,13 @@ pub struct Replayed {
 }
 
 // Names a case that differs by its place, from 0. Where it can't be written the replay goes on: the line behind the last case has its
-// number, and is written or ends the program with an error.
+// number, and is written or ends the program with an error. It only prints, so that no contract of `replay_all` speaks of output.
 fn tell_case(rt: &impl Print, place: usize) {
     let _ = println!(rt; "case {place} differs");
 }
 
-// Replays all cases, and tells those that differ; `None` where the input is no sample.
+// Replays all cases, and tells those that differ; `None` where the input is no sample. The loop goes by places: where a case begins only
+// the one before it says, and a case that differs is named by its place.
 fn replay_all(rt: &impl Print, input: &[u8]) -> Option<Replayed>
     ensures { result ≡ replayed input.now }
 {

@@ -48,6 +48,7 @@ pub(crate) fn words_at(input: &[u8], at: usize, count: usize) -> [u32; 512]
 }
 
 // The case at place `at`; `None` where it isn't all there.
+#[tactic(auto, unfolding(crate::specs::Sample::case_at, crate::specs::Sample::case_of, crate::specs::Sample::short, format::specs::Basics::choose))]
 pub(crate) fn case_at(input: &[u8], at: usize) -> Option<Case>
     requires { at ≤ length input.now }
     ensures { result ≡ case_at input.now at }

