@@ -97,9 +97,6 @@ unfolding listing_of choose
 too_long text h = rw (lt-leb (length text) 65536 h)
 
 module _ (text : List ℕ) {ids freqs : List ℕ} {r : Option ℕ} (k : Reads (table text) ids freqs r) where
-  pub rows-within : (n : ℕ) → r ≡ Some n → n ≤ 16384
-  rows-within n e = rw e at k.within
-
   listing-text : length text ≤ 65536 → listing_of text ≡ listing_in (option_map (λ n. taken n ids freqs) r)
   unfolding listing_of choose
   listing-text h = rw (le-leb (length text) 65536 h, k.columns_are)

@@ -18,7 +18,7 @@ use Rattle.segment_postings.proofs.Simulation.CallsSimulate.{Stands, Goes, shown
 use Rattle.segment_postings.proofs.Simulation.StepSimulates.{docs-count}
 use Rattle.listing.specs.Output.{line, lines_of, steps, Puts}
 use Rattle.listing.proofs.Decimal.{line-most}
-use Rattle.listing.proofs.Putting.{puts_none, puts-length, puts_then}
+use Rattle.listing.proofs.Putting.{puts_none, puts_then}
 
 -- ---- one turn
 
@@ -85,9 +85,6 @@ module _ (t : Term) (bs : List ℕ) where
     }
 
   module _ {start left next : ℕ} {output₀ output : List ℕ} {c : SegmentPostings} (k : Walked start left next output₀ output c) where
-    pub walk-room : length output ≡ length output₀
-    walk-room = puts-length k.puts
-
     steps_on : Goes t bs (advanced c bs t) (here docs freqs (after docs k.state step)) (after docs k.state step)
     unfolding called model.answer
     steps_on = (simulation t bs).goes k.stands step

@@ -27,7 +27,8 @@ fn put_refusal(output: &mut [u8]) -> usize
     put(b"refused\n", output, 0).unwrap()
 }
 
-// Opens a sound image and steps to its end, and puts the line of each answer.
+// Opens a sound image and steps to its end, and puts the line of each answer. The loop goes over a range: it makes a
+// step for each document, and there are no elements to go over.
 fn put_steps(image: &[u8], term: Term, output: &mut [u8], at: usize) -> usize
     requires { ((reading term image.now).verdict ≡ Ok tt) × (at + 63 * (term.count + 1) ≤ length output.old) }
     ensures { Puts (steps (docs_of (reading term image.now).blocks) (freqs_of (reading term image.now).blocks))

@@ -8,8 +8,6 @@ mod list;
 mod table;
 mod text;
 
-ghost use Rattle.std.specs.Prelude.{◌≡◌, length};
-
 use input::read_full;
 use list::list_table;
 use std::io;

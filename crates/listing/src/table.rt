@@ -52,6 +52,7 @@ fn read_row(line: &[u8]) -> Option<(u32, u32)>
 }
 
 // Reads the line of names.
+#[tactic(auto, unfolding(crate::specs::Input::names, format::specs::Basics::choose))]
 fn read_names(line: &[u8]) -> Option<Order>
     ensures { result ≡ names line.now }
 {
