@@ -74,10 +74,7 @@ pub extern "C" fn vilthorwy_bench_seeks(
         (length docs.old) (length freqs.old))
         docs.old freqs.old docs.new freqs.new result }
 {
-    if docs.len() < targets.len() {
-        return 0;
-    }
-    if freqs.len() < targets.len() {
+    if docs.len() < targets.len() || freqs.len() < targets.len() {
         return 0;
     }
     let term = Term {
