@@ -33,6 +33,7 @@ enum Coded {
 }
 
 // What a number codes, if its kind is known: it is kind * 2 ^ 32 + target, and an advance ignores the target.
+#[tactic(auto, unfolding(crate::specs::RunCalls::kind_of, crate::specs::RunCalls::target_of, crate::specs::RunCalls::call_of, crate::specs::RunCalls::meant, format::specs::Basics::choose))]
 fn decode(code: u64) -> Option<Coded>
     ensures { Decodes code result }
 {
@@ -54,6 +55,7 @@ fn kinds_known(calls: &[u64]) -> bool
 }
 
 // Makes one call: by value, or on a lent cursor. Each arm returns: as the value of the `match` a cursor would be copied once more, by half.
+#[tactic(auto, unfolding(segment_postings::specs::Called::called, crate::specs::RunCalls::meant))]
 fn make_call(cursor: SegmentPostings, image: &[u8], term: Term, call: Coded) -> Moved
     ensures { result ≡ called cursor image.now term (meant call) }
 {
@@ -67,6 +69,7 @@ fn make_call(cursor: SegmentPostings, image: &[u8], term: Term, call: Coded) -> 
 
 // An answer's numbers, each in its place; the others are 0. By the places' names and not in one expression: so a name that callers go by
 // can't come to mean another place.
+#[tactic(auto, unfolding(segment_postings::specs::Called::numbers))]
 fn numbers_of(answer: Result<Answer, Refusal>) -> [u64; ANSWER_NUMBERS]
     ensures { result ≡ numbers answer }
 {
@@ -101,8 +104,7 @@ fn run_from(opened: Moved, image: &[u8], term: Term, calls: &[u64], answers: &mu
     for (i, &code) in calls.iter().enumerate() {
         let call = decode(code).unwrap();
         moved = make_call(moved.cursor, image, term, call);
-        let answer = moved.answer;
-        put_answer(answer, answers, ANSWER_NUMBERS * (i + 1));
+        put_answer(moved.answer, answers, ANSWER_NUMBERS * (i + 1));
     }
 }
 
@@ -113,10 +115,7 @@ fn run_from(opened: Moved, image: &[u8], term: Term, calls: &[u64], answers: &mu
 pub fn run_calls(image: &[u8], term: Term, calls: &[u64], answers: &mut [u64]) -> usize
     ensures { Runs image.now term calls.now answers.old answers.new result }
 {
-    if answers.len() / ANSWER_NUMBERS <= calls.len() {
-        return 0;
-    }
-    if !kinds_known(calls) {
+    if answers.len() / ANSWER_NUMBERS <= calls.len() || !kinds_known(calls) {
         return 0;
     }
     let opened = open(image, term);

@@ -1,11 +1,10 @@
 -- The laws of coded calls and of their answers, each opened by one turn: what a call's number says, an answer's length, and a
 -- list of calls from a place on, whose first answer is that of its call and the rest those on the cursor that it left.
 -- Assumes nothing.
-use Rattle.std.specs.Prelude.{Ok, Err, Option, None, Some}
+use Rattle.std.specs.Prelude.{Ok, Err}
 use Rattle.std.specs.List.{list_all}
 use Rattle.std.proofs.lemmas.List.Recursion.{and_at}
-use Rattle.std.proofs.lemmas.Option.{none-some}
-use mathlib.Core.Path.{◌≡◌, refl, sym, ap, subst, ◌∙◌}
+use mathlib.Core.Path.{◌≡◌, refl, sym, ap, ◌∙◌}
 use mathlib.Core.Bool.{Bool, true, ◌&&◌ as and}
 use mathlib.Core.List.{List, [], ◌∷◌, ◌++◌, map}
 use Prim.Native.Nat.{ℕ, suc, ◌+◌, ◌*◌, ◌/◌, ◌%◌, ◌-◌, ◌≤◌, ◌<◌}
@@ -14,7 +13,7 @@ use native.Mathlib.Omega.{arith}
 use lib.Dec.{ltb}
 use lib.ListN.{length, drop, get_or, length-append, length-map, length-drop}
 use lib.Seq.{drop-cons, drop-length}
-use borrow.Author.Tests.{eq-eqb, ne_eqb, lt-ltb, le-ltb}
+use borrow.Author.Tests.{eq-eqb, ne_eqb}
 use Rattle.format.specs.declared.Term.{Term}
 use Rattle.format.specs.Basics.{choose, put_at, Outcome}
 use Rattle.format.specs.Model.{Call, step, seek}
@@ -23,13 +22,9 @@ use Rattle.segment_postings.specs.declared.Answer.{Answer}
 use Rattle.segment_postings.specs.declared.Moved.{Moved}
 use Rattle.segment_postings.specs.declared.SegmentPostings.{SegmentPostings}
 use Rattle.segment_postings.specs.Called.{called, calls_from, answer_length, numbers, all_numbers}
-use Rattle.postings.specs.RunCalls.{kind_of, target_of, call_of, all_known, meant, Decodes}
-use Rattle.postings.specs.declared.calls.Coded.{Coded}
+use Rattle.postings.specs.RunCalls.{kind_of, target_of, call_of, all_known}
 
 -- ---- a call's number
-
-means-same : {c d : Coded} {call : Call} → ◌≡◌ {A = Option Coded} (Some c) (Some d) → meant c ≡ call → meant d ≡ call
-means-same {c} {d} {call} e means = let same : c ≡ d = cc in subst (λ (x : Coded). meant x ≡ call) same means
 
 module _ (n : ℕ) where
   pub step-called : n / 4294967296 ≡ 0 → call_of n ≡ step
@@ -43,14 +38,6 @@ module _ (n : ℕ) where
   pub seek-called : (n / 4294967296 ≡ 0 → ⊥) → (n / 4294967296 ≡ 2 → ⊥) → call_of n ≡ seek (n % 4294967296)
   unfolding call_of choose kind_of target_of
   seek-called z w = rw (ne_eqb (n / 4294967296) 0 z, ne_eqb (n / 4294967296) 2 w)
-
-  pub decodes : (c : Coded) → n / 4294967296 < 4 → meant c ≡ call_of n → Decodes n (Some c)
-  unfolding kind_of
-  decodes c below means = record { known = sym (lt-ltb (n / 4294967296) 4 below); meaning = λ e. means-same e means }
-
-  pub decodes-none : 4 ≤ n / 4294967296 → Decodes n None
-  unfolding kind_of
-  decodes-none above = record { known = sym (le-ltb (n / 4294967296) 4 above); meaning = λ e. absurd (none-some _ e) }
 
 -- ---- kinds, one by one
 
