@@ -25,6 +25,7 @@ pub struct Stepped {
 }
 
 // Goes to a document, and shows the one that it leaves; an empty image shows nothing.
+#[tactic(auto, unfolding(crate::specs::Lent::stepped))]
 pub fn step(place: Place, image: &[u8], doc: u32) -> Stepped
     ensures { result ≡ stepped place image.now doc }
 {
@@ -32,7 +33,7 @@ pub fn step(place: Place, image: &[u8], doc: u32) -> Stepped
         doc,
         before: place.doc,
     };
-    if image.len() == 0 {
+    if image.is_empty() {
         return Stepped {
             shown: Shown::Nothing,
             place: next,

@@ -71,34 +71,27 @@ pub struct Served {
 }
 
 // One target: 10 where its id is above 2147483647, whatever was refused before; else the refusal so far; else 17 where it falls.
+#[tactic(auto, unfolding(crate::specs::Serve::asks_one))]
 fn ask(asked: Asked, t: Target) -> Asked
     ensures { result ≡ asks_one asked t }
 {
-    if 2147483647 < t.id {
-        return Asked {
-            refusal: 10,
-            last: t.id,
-        };
-    }
-    if asked.refusal != 0 {
-        return Asked {
-            refusal: asked.refusal,
-            last: t.id,
-        };
-    }
-    if t.id < asked.last {
-        return Asked {
-            refusal: 17,
-            last: t.id,
-        };
-    }
+    let refusal = if 2147483647 < t.id {
+        10
+    } else if asked.refusal != 0 {
+        asked.refusal
+    } else if t.id < asked.last {
+        17
+    } else {
+        0
+    };
     Asked {
-        refusal: 0,
+        refusal,
         last: t.id,
     }
 }
 
 // A stand-in for opening. A refusal of the targets is a refusal here; an empty image is 9.
+#[tactic(auto, unfolding(crate::specs::Serve::opens, crate::specs::Serve::opens_docs, crate::specs::Serve::opens_freqs))]
 fn open(
     docs: &mut [u32; 128],
     freqs: &mut [u32; 128],
@@ -121,7 +114,7 @@ fn open(
             numbers: none,
         };
     }
-    if image.len() == 0 {
+    if image.is_empty() {
         return Opened {
             refusal: 9,
             numbers: none,
@@ -178,6 +171,7 @@ fn serve(
     }
 }
 
+#[tactic(auto, unfolding(crate::specs::Serve::ends))]
 fn hand_out(refusal: u8, served: usize, n: Numbers) -> Served
     ensures { result ≡ ends refusal served n }
 {
@@ -203,7 +197,7 @@ pub fn ask_all(targets: &[Target]) -> Asked
     asked
 }
 
-// Targets that have been asked are served in order, up to the first refusal.
+// Targets that have been asked are served in order, up to the first refusal. 2147483647 has a name in `format`, which isn't linked here.
 pub fn serve_all(targets: &mut [Target], asked: Asked, image: &[u8], term: Term) -> Served
     ensures { Leaves (served targets.old asked image.now term) result targets.new }
 {
@@ -250,6 +244,7 @@ pub struct Marked {
 }
 
 // The larger of a number and an id that is at least `least`.
+#[tactic(auto, unfolding(crate::specs::Mark::larger))]
 fn larger_of(most: u32, t: Target, least: u32) -> u32
     ensures { result ≡ larger most t least }
 {
@@ -273,6 +268,7 @@ pub fn largest(targets: &[Target], least: u32) -> u32
     most
 }
 
+#[tactic(auto, unfolding(crate::specs::Mark::starts, crate::specs::Mark::starts_seen, crate::specs::Mark::starts_last))]
 fn start(seen: &mut [u8; 16], last: &mut [u64; 2], from: usize) -> Started
     ensures { (result ≡ starts from) ×
         ((seen.new ≡ starts_seen seen.old) × (last.new ≡ starts_last last.old)) }
@@ -315,6 +311,7 @@ fn mark(seen: &mut [u8; 16], last: &mut [u64; 2], t: Target, next: usize) -> Mar
     }
 }
 
+#[tactic(auto, unfolding(crate::specs::Mark::sums))]
 fn sum_up(refusal: u8, done: usize, next: usize) -> u64
     ensures { result ≡ sums refusal next }
 {
@@ -325,6 +322,7 @@ fn sum_up(refusal: u8, done: usize, next: usize) -> u64
 }
 
 // Marks targets, as many as there are places from `from` to 15; the next place, or 0 where there are more or `from` lies above 15.
+// It has the form of `serve_all`, which is the theorem's, and is no second case of it: other states, arrays and parameters.
 pub fn mark_all(targets: &mut [Target], from: usize) -> u64
     ensures { LeavesMarked (marked targets.old from) result targets.new }
 {
