@@ -53,6 +53,7 @@ pub extern "C" fn vilthorwy_total(mode: u8, count: u32, image: &[u8], target: u3
 }
 
 // 0 where an image is sound, else the refusal's number.
+#[tactic(auto, unfolding(serializer::specs::Calls::accepted_number))]
 #[unsafe(no_mangle)]
 pub extern "C" fn vilthorwy_validate(mode: u8, count: u32, image: &[u8]) -> u64
     ensures { result ≡ accepted_number (soundness mode count image.now) }
