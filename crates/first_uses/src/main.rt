@@ -1,5 +1,6 @@
 // First uses of `postings`, proved and run: ids 3, 7 and 300 with frequencies 1, 2 and 130 are written, document by document and at
-// once, and read in each way there is. It prints what it finds; a refusal prints its number.
+// once, and read in each way there is. It prints what it finds; a refusal prints its number. What is lent are arrays of a fixed length,
+// with room for any list of three documents: no heap is used.
 
 #![tactic(auto)]
 

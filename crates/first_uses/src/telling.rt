@@ -26,7 +26,7 @@ pub(crate) fn tell_answer(rt: &impl Print, answer: Result<Answer, Refusal>) -> i
     }
 }
 
-// A number that was asked for.
+// A number that a call answers, or its refusal.
 pub(crate) fn tell_value(
     rt: &impl Print,
     word: &str,

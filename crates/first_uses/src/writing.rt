@@ -1,6 +1,6 @@
 // A list written.
 
-use crate::telling::{tell, tell_refusal};
+use crate::telling::{tell, tell_refusal, tell_value};
 use postings::{
     Progress, Refusal, ask_list, close_term, close_term_in, new_term, new_term_in, write_doc,
     write_doc_in, write_list,
@@ -27,10 +27,7 @@ pub(crate) fn write_whole(rt: &impl Print, output: &mut [u8]) -> io::Result<usiz
 
 // Whether a call took what it was handed, or would.
 fn tell_accepted(rt: &impl Print, accepted: Result<(), Refusal>) -> io::Result<()> {
-    match accepted {
-        Ok(()) => tell(rt, "taken", 1),
-        Err(refusal) => tell_refusal(rt, refusal),
-    }
+    tell_value(rt, "taken", accepted.map(|()| 1))
 }
 
 // The same document by document: a state goes from call to call. A document that is refused, here the second 3, isn't taken, and
@@ -51,10 +48,7 @@ pub(crate) fn write_each(rt: &impl Print, output: &mut [u8]) -> io::Result<()> {
 
 // An image's length, or the refusal's number.
 fn tell_written(rt: &impl Print, answer: Result<usize, Refusal>) -> io::Result<()> {
-    match answer {
-        Ok(n) => tell(rt, "bytes", n as u64),
-        Err(refusal) => tell_refusal(rt, refusal),
-    }
+    tell_value(rt, "bytes", answer.map(|n| n as u64))
 }
 
 // Hands a document in that waits in two arrays of the caller's own: the numbers behind it, or the same where it is refused.
