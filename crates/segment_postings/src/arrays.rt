@@ -14,6 +14,7 @@ use format::{COMPRESSION_BLOCK_SIZE, Refusal, TERMINATED, Term};
 use skip::block_size;
 
 // The least id that may follow a last id; none may follow TERMINATED.
+#[tactic(auto, unfolding(crate::specs::Cursor::least_after_of))]
 fn least_after(last_doc: u32) -> u32
     ensures { result ≡ least_after_of last_doc }
 {
@@ -72,6 +73,7 @@ impl Held {
 }
 
 // The document and the frequency at the position, for a place of a block; at the end TERMINATED and 0.
+#[tactic(auto, unfolding(crate::specs::Cursor::answer_at_of, format::specs::Basics::choose))]
 pub(crate) fn shown_at(held: Held, term: Term, docs: &[u32; 128], freqs: &[u32; 128]) -> Answer
     requires { held.place < 128 }
     ensures { result ≡ answer_at_of term (cursor_of held docs.now freqs.now) }
@@ -164,6 +166,7 @@ impl<'a> LaidImage<'a> {
     }
 
     // Whether a block that begins at `at` begins inside the posting bytes: a part of question 5, so asked of a block with an entry alone.
+    #[tactic(auto, unfolding(crate::specs::Cursor::starts_inside_of, format::specs::Layout::full_blocks_of))]
     fn starts_inside(&self, block: usize, at: usize) -> bool
         ensures { result ≡ starts_inside_of self.now.term self.now.layout block at }
     {

@@ -33,6 +33,7 @@ pub(crate) struct Found {
 }
 
 // The tail has no entry: no bits, and TERMINATED for its last id.
+#[tactic(auto, unfolding(crate::specs::Landing::tail_info_of))]
 fn tail_info() -> BlockInfo
     ensures { result ≡ tail_info_of }
 {

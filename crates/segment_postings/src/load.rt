@@ -92,6 +92,7 @@ fn none_left(image: &[u8], at: usize) -> bool
 }
 
 // Whether an image keeps frequencies; those of a tail of n documents would begin at place `at`.
+#[tactic(auto, unfolding(format::specs::Reading::keeps_freqs_of))]
 fn keeps_freqs(option: IndexRecordOption, alone: bool, n: usize, image: &[u8], at: usize) -> bool
     ensures { result ≡ keeps_freqs_of option alone n (drop at image.now) }
 {

@@ -87,6 +87,7 @@ pub(crate) struct Went {
 }
 
 // Where a call on lent arrays came to, with its answer; a refusal leaves the numbers as they were.
+#[tactic(auto, unfolding(crate::specs::Private::with_answer_of))]
 pub(crate) fn with_answer(
     reached: Result<Held, Refusal>,
     was: Held,
@@ -136,6 +137,7 @@ pub(crate) fn go(
 }
 
 // Seeks to the first document, not before the present one, that is at least the target; if there is none, to the end.
+#[tactic(auto, unfolding(crate::specs::Called::called, crate::specs::Private::call_by))]
 pub fn seek(cursor: SegmentPostings, image: &[u8], term: Term, target: u32) -> Moved
     ensures { result ≡ sought cursor image.now term target }
 {

@@ -9,6 +9,7 @@ use crate::{Held, Moved, SegmentPostings};
 use format::{COMPRESSION_BLOCK_SIZE, Refusal, TERMINATED, Term};
 
 // A cursor of no list: 128 places that hold TERMINATED, with frequency 1. It is at none of them, so that every call on it is refused.
+#[tactic(auto, unfolding(crate::specs::Cursor::blank))]
 fn blank() -> SegmentPostings
     ensures { result ≡ blank }
 {
@@ -42,6 +43,7 @@ pub fn open(image: &[u8], term: Term) -> Moved
 }
 
 // Steps to the next document; at the end nothing changes.
+#[tactic(auto, unfolding(crate::specs::Called::called, crate::specs::Private::call_by))]
 pub fn advance(cursor: SegmentPostings, image: &[u8], term: Term) -> Moved
     ensures { result ≡ advanced cursor image.now term }
 {
@@ -82,6 +84,7 @@ fn value_at(
 }
 
 // The document at the position, TERMINATED at the end. It and the next are public calls by one function.
+#[tactic(auto, unfolding(crate::specs::Cursor::doc_at))]
 pub fn doc(cursor: SegmentPostings, image: &[u8], term: Term) -> Result<u64, Refusal>
     ensures { result ≡ doc_at cursor image.now term }
 {
@@ -90,6 +93,7 @@ pub fn doc(cursor: SegmentPostings, image: &[u8], term: Term) -> Result<u64, Ref
 }
 
 // The frequency at the position, 0 at the end.
+#[tactic(auto, unfolding(crate::specs::Cursor::freq_at))]
 pub fn term_freq(cursor: SegmentPostings, image: &[u8], term: Term) -> Result<u64, Refusal>
     ensures { result ≡ freq_at cursor image.now term }
 {

@@ -11,6 +11,7 @@ use format::{Refusal, TERMINATED, Term};
 use skip::block_size;
 
 // Whether the ids of a full block end on its entry's last id, with `least` the least id that may come behind them: question 6.
+#[tactic(auto, unfolding(crate::specs::Taken::ends_before))]
 fn ends_right(taken: Taken, least: u64) -> bool
     ensures { result ≡ ends_before taken.full taken.last_doc least }
 {
@@ -18,6 +19,7 @@ fn ends_right(taken: Taken, least: u64) -> bool
 }
 
 // How many frequencies are still to be asked for 0.
+#[tactic(auto, unfolding(crate::specs::Taken::freqs_to_ask_of, format::specs::Basics::choose))]
 fn freqs_to_ask(taken: Taken) -> usize
     ensures { result ≡ freqs_to_ask_of taken }
 {

@@ -8,9 +8,6 @@ use Rattle.segment_postings.proofs.arrays.Question16.{bounded}
 use Rattle.segment_postings.proofs.Laws.LandingParts.{lands_as, none-lands, leaving-laid, leaving_early, leaving-refused, leaves-from}
 use Rattle.segment_postings.proofs.arrays.leave.Goals as goal
 
-pub start_behind-from-requires : goal.start_behind-from-requires
-start_behind-from-requires c = omega (arith, bounded _ _ _ c.requires.0)
-
 pub returns-then-not-starts_inside : goal.returns-then-not-starts_inside
 returns-then-not-starts_inside c =
     let same = IfOk-at_ok _ c.in_ok-laid.was c.lay_out.ensures.image in

@@ -34,11 +34,6 @@ returns-then-target-doc c =
       whole_is = sym (ne_eqb _ _ (λ (e : count_below c.args.target c.args.docs.now ≡ length c.args.docs.now). omega (arith, all, at.0)));
     }
 
-pub overflow_add-passed : goal.overflow_add-passed
-overflow_add-passed c =
-    let at = turn (goal.at.overflow_add-passed c).In-Some in
-    omega (arith, c.loop-doc.invariant.most, at.3, at.0, c.type_inv.freqs (length c.loop-doc.yielded))
-
 pub loop-doc-preserved : goal.loop-doc-preserved
 loop-doc-preserved c =
     let i = c.loop-doc.invariant in

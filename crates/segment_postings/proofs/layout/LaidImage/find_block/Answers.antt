@@ -89,9 +89,6 @@ returns-then-not-entry_fits c =
     (find_broken _ _ _ _ _ (record { block = l.block; at = l.at; least = l.least; entries = l.entries; unpacked = a.from.unpacked }) c.entry_at-info.result
     c.loop-block-test.true info (sym c.entry_fits.ensures ∙ c.if-not-entry_fits.true))
 
-pub overflow_add-entries : goal.overflow_add-entries
-overflow_add-entries c = omega arith
-
 pub returns-then-target-info : goal.returns-then-target-info
 unfolding skip_bytes_of full_blocks_of
 returns-then-target-info c =

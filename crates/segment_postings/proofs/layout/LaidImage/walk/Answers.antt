@@ -29,7 +29,7 @@ use Rattle.segment_postings.proofs.Laws.BelowMark.{count_most}
 use Rattle.segment_postings.proofs.layout.SplitParts.{laid_out}
 use Rattle.segment_postings.proofs.find.FoundBlock.{found-there}
 use Rattle.segment_postings.proofs.validate.PlaceByPlace.{Ordered, ordered_none, ordered_next, ordered_same, ordered_over, ordered_all, ordered_ends, ends-full}
-use Rattle.segment_postings.proofs.validate.PlaceByPlace.{ZeroToCome, freqs_to_ask_of-most, to_come_first, to_come_next, to_come_zero, to_come_none, asked-all}
+use Rattle.segment_postings.proofs.validate.PlaceByPlace.{ZeroToCome, freqs_to_ask_of-most, to_come_next, to_come_zero, to_come_none, asked-all}
 use Rattle.segment_postings.proofs.load.BlockQuestions.{docs_broken, docs_fallen, docs-end_wrong, docs_right, freqs_broken, freqs_wrong, freqs-not-last, freqs_right}
 use Rattle.segment_postings.proofs.Admission.WalkReads.{walking, walking-from, reading_at, loaded_at-none, found-same, full-within}
 use Rattle.segment_postings.proofs.Admission.WalkReads.{reading-whole, reading_stops, stops_at-docs, stops_at-freqs, goes_on, ends-at-tail}
@@ -137,12 +137,6 @@ blocks-2-init c = record {
   same = ap (λ (r : Reading). r.verdict) (reading-whole _ _ _ c.args.self.now.laid_out);
 }
 
-pub overflow_cast-from : goal.overflow_cast-from
-overflow_cast-from c = omega arith
-
-pub find_block-requires : goal.find_block-requires
-find_block-requires c = walking-from _ c.args.self.now.layout _ c.blocks-2.invariant.block_most_is c.blocks-2.invariant.at_inside
-
 pub take_values-taken-requires : goal.take_values-taken-requires
 take_values-taken-requires c =
     let from = walking-from _ c.args.self.now.layout _ c.blocks-2.invariant.block_most_is c.blocks-2.invariant.at_inside in
@@ -155,11 +149,6 @@ ids-init c = record {
   least_some = λ no. absurd (omega arith);
   ordered = ordered_none _ _;
 }
-
-pub overflow_add-least : goal.overflow_add-least
-overflow_add-least c =
-    let h = at-block c.blocks-2.invariant.same c.find_block.ensures c.in_ok-found.was c.take_values-taken.ensures in
-    omega (arith, small h (not-false _ c.if-not-taken.false) c.ids.difference-index)
 
 pub ids-preserved : goal.ids-preserved
 ids-preserved c =
@@ -182,9 +171,6 @@ slice_bounds-freq-items-end c =
     let few : c.freqs_to_ask.result ≤ length c.take_values-taken.new.freqs
     = omega (arith, asked-most h c.freqs_to_ask.ensures, c.take_values-taken.ensures.freqs_fill.long) in
     omega (arith, length-take-le _ c.take_values-taken.new.freqs few)
-
-pub counts-init : goal.counts-init
-counts-init c = to_come_first _
 
 pub counts-preserved : goal.counts-preserved
 counts-preserved c =
