@@ -27,6 +27,7 @@ fn least_after(last_doc: u32) -> u32
 
 impl Held {
     // Question 16 of a cursor over an image of `size` bytes: it is asked of the numbers alone.
+    #[tactic(auto, unfolding(crate::specs::Cursor::in_bounds_of, crate::specs::Cursor::position))]
     pub(crate) fn in_bounds(self, term: Term, size: usize) -> bool
         ensures { result ≡ in_bounds_of term size self }
     {

@@ -38,6 +38,7 @@ fn front_below(docs: &[u32], freqs: &[u32], target: u32) -> Front
 }
 
 // How many documents a block holds.
+#[tactic(auto, unfolding(crate::specs::Passed::docs_in_of, format::specs::Layout::full_blocks_of, format::specs::Layout::tail_length))]
 pub(crate) fn docs_in(term: Term, block: usize) -> usize
     ensures { result ≡ docs_in_of term block }
 {

@@ -85,9 +85,6 @@ asked-all k freqs known = go k.freqs_nonzero refl
 pub record ZeroToCome (fs rest : List ℕ) : Type 0 where
   pub same : member 0 fs ≡ member 0 rest
 
-pub to_come_first : (fs : List ℕ) → ZeroToCome fs fs
-to_come_first fs = record { same = refl }
-
 -- a frequency more, which is or isn't 0
 module _ (fs : List ℕ) (f : ℕ) (rest : List ℕ) (c : ZeroToCome fs (f ∷ rest)) where
   pub to_come_next : (f ≡ 0 → ⊥) → ZeroToCome fs rest
