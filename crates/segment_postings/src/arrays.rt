@@ -5,10 +5,11 @@ ghost use Rattle.std.specs.Prelude.{◌≡◌, ◌+◌, ◌/◌, ◌^◌, ◌<�
 ghost use Rattle.segment_postings.specs.Landing.{first_start_of, landing};
 ghost use Rattle.segment_postings.specs.Cursor.{position, in_bounds_of, answer_at_of, answering, opening, least_after_of, starts_inside_of, start_behind_of, leaving, held_at, stepping};
 ghost use Rattle.segment_postings.specs.Calls.{cursor_of, Reaches};
-ghost use Rattle.segment_postings.specs.Private.{FoundThere, FindsFrom, loaded, Lands};
+ghost use Rattle.segment_postings.specs.Private.{FindsFrom, loaded, Lands};
 
-use crate::find::{Found, Start};
+use crate::find::Start;
 use crate::layout::{LaidImage, full_blocks, lay_out};
+use crate::load::FoundBlock;
 use crate::{Answer, Held};
 use format::{COMPRESSION_BLOCK_SIZE, Refusal, TERMINATED, Term};
 use skip::block_size;
@@ -113,20 +114,14 @@ pub fn answer_at(
 
 // Two arrays are lent, here and above: the calls on lent arrays have them so (document 01), and a struct of both would only be filled from them
 // and stored to them. They have a fixed length, and callers or the stack hold them: no heap is used.
-impl<'a> LaidImage<'a> {
-    // Unpacks a block that was found, and goes to its first place: questions 6 to 9. What a refusal leaves in the arrays, here and in all that
+impl<'a> FoundBlock<'a> {
+    // Unpacks the block, and goes to its first place: questions 6 to 9. What a refusal leaves in the arrays, here and in all that
     // goes by this, isn't told: whoever may not lose them lends two of its own.
-    fn unpack_found(
-        &self,
-        found: Found,
-        unpacked: usize,
-        docs: &mut [u32; 128],
-        freqs: &mut [u32; 128],
-    ) -> Result<Held, Refusal>
-        requires { FoundThere self.now.term self.now.image.now found × (unpacked + 1 < 2 ^ 64) }
-        ensures { Lands (loaded self.now.term self.now.layout self.now.image.now found unpacked) docs.new freqs.new result }
+    fn unpack(&self, docs: &mut [u32; 128], freqs: &mut [u32; 128]) -> Result<Held, Refusal>
+        ensures { Lands (loaded self.now.laid.term self.now.laid.layout self.now.laid.image.now self.now.found self.now.unpacked) docs.new freqs.new result }
     {
-        let loaded = self.load_block(found, unpacked, docs, freqs)?;
+        let loaded = self.load(docs, freqs)?;
+        let found = self.found;
         let info = found.info;
         Ok(Held {
             place: 0,
@@ -137,7 +132,9 @@ impl<'a> LaidImage<'a> {
             entries: found.entries,
         })
     }
+}
 
+impl<'a> LaidImage<'a> {
     // Goes to the first block from a block on whose last id is at least the target, and unpacks it: questions 5 to 9.
     pub(crate) fn land(
         &self,
@@ -150,7 +147,12 @@ impl<'a> LaidImage<'a> {
         ensures { Lands (landing self.now.term self.now.image.now self.now.layout target from) docs.new freqs.new result }
     {
         let found = self.find_block(target, from)?;
-        self.unpack_found(found, from.unpacked, docs, freqs)
+        let block = FoundBlock {
+            laid: *self,
+            found,
+            unpacked: from.unpacked,
+        };
+        block.unpack(docs, freqs)
     }
 
     // Block 0, before anything is read.

@@ -5,6 +5,7 @@ ghost use Rattle.format.specs.Basics.{and_then};
 ghost use Rattle.format.specs.Layout.{full_blocks_of};
 ghost use Rattle.format.specs.Model.{member};
 ghost use Rattle.format.specs.Reading.{keeps_freqs_of};
+ghost use Rattle.format.specs.SkipEntry.{block_size_of};
 ghost use Rattle.segment_postings.specs.Private.{FoundThere, BlockLoaded};
 ghost use Rattle.segment_postings.specs.Taken.{ValuesTaken, DocsAsked, asked_freqs, full_taken_of, tail_taken_of};
 
@@ -16,6 +17,16 @@ use compression::values::{first_as_difference, has_zero, reduction, restore_docs
 use format::{BlockInfo, COMPRESSION_BLOCK_SIZE, IndexRecordOption, Refusal, TERMINATED};
 use skip::has_freq;
 use vint::uncompress_unsorted;
+
+// A block that was found in an image, and the blocks unpacked by then: its bytes are there, and neither the place behind them nor
+// one block more wraps.
+#[derive(Clone, Copy)]
+pub(crate) struct FoundBlock<'a> {
+    pub laid: LaidImage<'a>,
+    pub found: Found,
+    pub unpacked: usize,
+    ghost there: { FoundThere laid.term laid.image.now found × (unpacked + 1 < 2 ^ 64) × (found.at + block_size_of found.info < 2 ^ 64) },
+}
 
 // What was taken of a block, beside its values: how many they are, whether its numbers were all there, what their form rules out, and
 // whether its bytes end where they should. All values are taken before the first is asked, by one function for both who ask, so each answer
@@ -131,53 +142,46 @@ fn ask_freqs(taken: Taken, freqs: &[u32; 128]) -> Result<(), Refusal>
     Ok(())
 }
 
-impl<'a> LaidImage<'a> {
-    // Takes the values of a full block out of an image, and counts it.
-    fn take_full(
-        &self,
-        found: Found,
-        unpacked: usize,
-        docs: &mut [u32; 128],
-        freqs: &mut [u32; 128],
-    ) -> Taken
-        requires { FoundThere self.now.term self.now.image.now found × (unpacked + 1 < 2 ^ 64) × (found.block < full_blocks_of self.now.term) }
-        ensures { ValuesTaken self.now.term self.now.layout self.now.image.now found unpacked docs.new freqs.new result }
+impl<'a> FoundBlock<'a> {
+    // The blocks unpacked, with this one.
+    fn counted(&self) -> usize
+        ensures { result ≡ self.now.unpacked + 1 }
     {
+        self.unpacked + 1
+    }
+
+    // Takes the values of a full block out of an image.
+    fn take_full(&self, docs: &mut [u32; 128], freqs: &mut [u32; 128]) -> Taken
+        requires { self.now.found.block < full_blocks_of self.now.laid.term }
+        ensures { ValuesTaken self.now.laid.term self.now.laid.layout self.now.laid.image.now self.now.found self.now.unpacked docs.new freqs.new result }
+    {
+        let counted = self.counted();
+        let found = self.found;
         let info = found.info;
         let more = reduction(info.strict);
-        unpack(&self.image[found.at..], info.doc_width, more, docs);
+        unpack(&self.laid.image[found.at..], info.doc_width, more, docs);
         if !info.strict {
             first_as_difference(docs, found.least);
         }
-        let kept = has_freq(self.layout.option);
-        if !kept || self.term.requested == 0 {
+        let kept = has_freq(self.laid.layout.option);
+        if !kept || self.laid.term.requested == 0 {
             *freqs = [1; 128];
-            return full_taken(info, true, kept, unpacked + 1);
+            return full_taken(info, true, kept, counted);
         }
         let behind = found.at + compressed_block_size(info.doc_width);
-        unpack(&self.image[behind..], info.freq_width, more, freqs);
-        full_taken(
-            info,
-            info.strict && info.freq_width < 32,
-            kept,
-            unpacked + 1,
-        )
+        unpack(&self.laid.image[behind..], info.freq_width, more, freqs);
+        full_taken(info, info.strict && info.freq_width < 32, kept, counted)
     }
 
-    // Takes those of the tail, and counts it; where its ids aren't all there nothing is told of the ids' array.
-    fn take_tail(
-        &self,
-        found: Found,
-        unpacked: usize,
-        docs: &mut [u32; 128],
-        freqs: &mut [u32; 128],
-    ) -> Taken
-        requires { FoundThere self.now.term self.now.image.now found × (unpacked + 1 < 2 ^ 64) × (full_blocks_of self.now.term ≤ found.block) }
-        ensures { ValuesTaken self.now.term self.now.layout self.now.image.now found unpacked docs.new freqs.new result }
+    // Takes those of the tail; where its ids aren't all there nothing is told of the ids' array.
+    fn take_tail(&self, docs: &mut [u32; 128], freqs: &mut [u32; 128]) -> Taken
+        requires { full_blocks_of self.now.laid.term ≤ self.now.found.block }
+        ensures { ValuesTaken self.now.laid.term self.now.laid.layout self.now.laid.image.now self.now.found self.now.unpacked docs.new freqs.new result }
     {
-        let image = self.image;
-        let counted = unpacked + 1;
-        let n = self.term.count as usize % COMPRESSION_BLOCK_SIZE;
+        let image = self.laid.image;
+        let found = self.found;
+        let counted = self.counted();
+        let n = self.laid.term.count as usize % COMPRESSION_BLOCK_SIZE;
         let mut ids = [TERMINATED; 128];
         *freqs = [1; 128];
         let Some(behind) = uncompress_unsorted(image, found.at, &mut ids[..n]) else {
@@ -188,15 +192,15 @@ impl<'a> LaidImage<'a> {
         };
         first_as_difference(&mut ids[..n], found.least);
         *docs = ids;
-        let alone = full_blocks(self.term.count) == 0;
-        let kept = keeps_freqs(self.layout.option, alone, n, image, behind);
+        let alone = full_blocks(self.laid.term.count) == 0;
+        let kept = keeps_freqs(self.laid.layout.option, alone, n, image, behind);
         if !kept || n == 0 {
             return Taken {
                 ended: none_left(image, behind),
                 ..tail_taken(n, kept, counted)
             };
         }
-        if self.term.requested == 0 {
+        if self.laid.term.requested == 0 {
             return tail_taken(n, kept, counted);
         }
         let mut counts = [1; 128];
@@ -217,36 +221,26 @@ impl<'a> LaidImage<'a> {
     // Takes the values of a block out of an image, and counts it, by one of the two above: nothing else does either. Ids are left as
     // differences, frequencies as they are.
     #[tactic(auto, unfolding(format::specs::Layout::full_blocks_of))]
-    pub(crate) fn take_values(
-        &self,
-        found: Found,
-        unpacked: usize,
-        docs: &mut [u32; 128],
-        freqs: &mut [u32; 128],
-    ) -> Taken
-        requires { FoundThere self.now.term self.now.image.now found × (unpacked + 1 < 2 ^ 64) }
-        ensures { ValuesTaken self.now.term self.now.layout self.now.image.now found unpacked docs.new freqs.new result }
+    pub(crate) fn take_values(&self, docs: &mut [u32; 128], freqs: &mut [u32; 128]) -> Taken
+        ensures { ValuesTaken self.now.laid.term self.now.laid.layout self.now.laid.image.now self.now.found self.now.unpacked docs.new freqs.new result }
     {
-        if found.block < full_blocks(self.term.count) {
-            self.take_full(found, unpacked, docs, freqs)
+        if self.found.block < full_blocks(self.laid.term.count) {
+            self.take_full(docs, freqs)
         } else {
-            self.take_tail(found, unpacked, docs, freqs)
+            self.take_tail(docs, freqs)
         }
     }
 
     // Unpacks the block that was found into two lent arrays, and asks questions 6 to 9. What a refusal leaves in the arrays isn't told.
-    pub(crate) fn load_block(
+    pub(crate) fn load(
         &self,
-        found: Found,
-        unpacked: usize,
         docs: &mut [u32; 128],
         freqs: &mut [u32; 128],
     ) -> Result<Loaded, Refusal>
-        requires { FoundThere self.now.term self.now.image.now found × (unpacked + 1 < 2 ^ 64) }
-        ensures { BlockLoaded self.now.term self.now.layout self.now.image.now found unpacked docs.new freqs.new result }
+        ensures { BlockLoaded self.now.laid.term self.now.laid.layout self.now.laid.image.now self.now.found self.now.unpacked docs.new freqs.new result }
     {
-        let taken = self.take_values(found, unpacked, docs, freqs);
-        ask_docs(taken, found.least, docs)?;
+        let taken = self.take_values(docs, freqs);
+        ask_docs(taken, self.found.least, docs)?;
         ask_freqs(taken, freqs)?;
         Ok(Loaded {
             unpacked: taken.unpacked,

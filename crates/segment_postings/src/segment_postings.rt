@@ -14,7 +14,8 @@ fn blank() -> SegmentPostings
     ensures { result ≡ blank }
 {
     SegmentPostings {
-        docs: [TERMINATED; 128],
+        // As document 01 writes it.
+        docs: [2147483647; 128],
         held: Held {
             place: COMPRESSION_BLOCK_SIZE,
             block: 0,

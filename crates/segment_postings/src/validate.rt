@@ -6,7 +6,7 @@ ghost use Rattle.segment_postings.specs.Taken.{ends_before, freqs_to_ask_of};
 
 use crate::find::Start;
 use crate::layout::{LaidImage, lay_out};
-use crate::load::Taken;
+use crate::load::{FoundBlock, Taken};
 use format::{Refusal, TERMINATED, Term};
 use skip::block_size;
 
@@ -47,7 +47,12 @@ impl<'a> LaidImage<'a> {
                 unpacked: block,
             };
             let found = self.find_block(0, from)?;
-            let taken = self.take_values(found, block, &mut docs, &mut freqs);
+            let here = FoundBlock {
+                laid: *self,
+                found,
+                unpacked: block,
+            };
+            let taken = here.take_values(&mut docs, &mut freqs);
             if !taken.docs_there {
                 break 'blocks Err(Refusal::NumberBroken);
             }

@@ -1,19 +1,18 @@
 -- `segment_postings::layout::LaidImage::land` meets its contract: a landing is the block found, unpacked.
 -- Assumes nothing.
-use Rattle.std.proofs.Common.{sym}
+use Rattle.std.proofs.Common.{sym, arith}
 use Rattle.segment_postings.proofs.Laws.Exits.{passed_on}
 use Rattle.segment_postings.proofs.find.FoundBlock.{found-there}
 use Rattle.segment_postings.proofs.Laws.LandingParts.{lands_as, none-lands, landing-found, landing-refused}
 use Rattle.segment_postings.proofs.layout.LaidImage.land.Goals as goal
 
-pub unpack_found-requires : goal.unpack_found-requires
-unpack_found-requires c = (
-  found-there _ _ _ _ _ c.requires.0 (sym c.in_ok-found.ensures),
-  c.requires.1,
-)
+pub invariant_of-block : goal.invariant_of-block
+invariant_of-block c =
+    let there = found-there _ _ _ _ _ c.requires.0 (sym c.in_ok-found.ensures) in
+    record { there = (there, c.requires.1, omega (arith, there.bytes)) }
 
 pub returns : goal.returns
-returns c = lands_as (landing-found _ _ _ _ _ (sym c.in_ok-found.ensures)) c.unpack_found.ensures
+returns c = lands_as (landing-found _ _ _ _ _ (sym c.in_ok-found.ensures)) c.unpack.ensures
 
 pub returns-in_err-found : goal.returns-in_err-found
 returns-in_err-found c =

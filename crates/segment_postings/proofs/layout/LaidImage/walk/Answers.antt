@@ -137,11 +137,12 @@ blocks-2-init c = record {
   same = ap (λ (r : Reading). r.verdict) (reading-whole _ _ _ c.args.self.now.laid_out);
 }
 
-pub take_values-taken-requires : goal.take_values-taken-requires
-take_values-taken-requires c =
+pub invariant_of-here : goal.invariant_of-here
+invariant_of-here c =
     let from = walking-from _ c.args.self.now.layout _ c.blocks-2.invariant.block_most_is c.blocks-2.invariant.at_inside in
     let found = (sym c.find_block.ensures ∙ c.in_ok-found.was) in
-    (found-there _ _ _ _ _ from found, omega (arith, few c.args.self.now.term c.args.self.now.image.now c.args.self.now.laid_out c.blocks-2.invariant.block_most_is))
+    let there = found-there _ _ _ _ _ from found in
+    record { there = (there, omega (arith, few c.args.self.now.term c.args.self.now.image.now c.args.self.now.laid_out c.blocks-2.invariant.block_most_is), omega (arith, there.bytes)) }
 
 pub ids-init : goal.ids-init
 ids-init c = record {

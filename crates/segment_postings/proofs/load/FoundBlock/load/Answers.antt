@@ -18,7 +18,7 @@ use Rattle.segment_postings.specs.declared.load.Taken.{Taken}
 use Rattle.segment_postings.specs.Landing.{load_block_of, padded}
 use Rattle.segment_postings.specs.Private.{counted, BlockLoaded}
 use Rattle.segment_postings.specs.Taken.{asked_docs, asked_freqs, asked, FilledUp, ValuesTaken, DocsAsked}
-use Rattle.segment_postings.proofs.layout.LaidImage.load_block.Goals as goal
+use Rattle.segment_postings.proofs.load.FoundBlock.load.Goals as goal
 
 -- ids that passed were all there
 docs_there : (k : Taken) (least : ℕ) (docs : List ℕ) {ds : List ℕ} → asked_docs k least docs ≡ Ok ds → k.docs_there ≡ true
