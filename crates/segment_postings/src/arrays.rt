@@ -19,11 +19,7 @@ use skip::block_size;
 fn least_after(last_doc: u32) -> u32
     ensures { result ≡ least_after_of last_doc }
 {
-    if last_doc < TERMINATED {
-        last_doc + 1
-    } else {
-        TERMINATED
-    }
+    last_doc.saturating_add(1).min(TERMINATED)
 }
 
 impl Held {
@@ -33,7 +29,7 @@ impl Held {
         ensures { result ≡ in_bounds_of term size self }
     {
         let count = term.count as usize;
-        let blocks = count / COMPRESSION_BLOCK_SIZE;
+        let blocks = full_blocks(term.count);
         self.block <= blocks
             && self.place < COMPRESSION_BLOCK_SIZE
             && COMPRESSION_BLOCK_SIZE * self.block + self.place <= count
@@ -49,7 +45,7 @@ impl Held {
         ensures { result ≡ (position self == term.count) }
     {
         let count = term.count as usize;
-        self.block == count / COMPRESSION_BLOCK_SIZE && self.place == count % COMPRESSION_BLOCK_SIZE
+        self.block == full_blocks(term.count) && self.place == count % COMPRESSION_BLOCK_SIZE
     }
 
     // The numbers of a cursor at another place of its held block.
@@ -207,6 +203,9 @@ pub fn open_in(
     Ok(held)
 }
 
+// The numbers, the image and the term go on as parameters, here and in `seek_behind`: each public call asks question 16 of them in a line and
+// answers numbers, so a struct of the three would be made and taken apart by each.
+//
 // Goes to another block, from a full one: questions 1 to 4 are asked again of the image that is passed, then 5 to 9. A lent
 // cursor that didn't come from this image may place its next block before the posting bytes.
 fn leave(

@@ -22,7 +22,7 @@ pub(crate) struct Start {
 }
 
 // A block that was found by its entry, not yet unpacked: its number, where its bytes begin, the least id that it may hold, and the
-// entries read by then.
+// entries read by then. It has four numbers as `Start` has them, and is no `Start`: they are another block's.
 #[derive(Clone, Copy)]
 pub(crate) struct Found {
     pub block: usize,

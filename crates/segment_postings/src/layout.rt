@@ -111,7 +111,8 @@ pub fn skip_bytes(image: &[u8], count: u32) -> &[u8]
     }
 }
 
-// The posting bytes, the part behind the skip bytes, by the same split; empty too where the answer is no.
+// The posting bytes, the part behind the skip bytes, by the same split; empty too where the answer is no. One call for each part, as
+// document 01 has it.
 pub fn posting_bytes(image: &[u8], count: u32) -> &[u8]
     ensures { result.now ≡ posting_part count image.now }
 {

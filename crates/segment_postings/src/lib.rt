@@ -55,7 +55,8 @@ pub struct Answer {
     pub entries: usize,
 }
 
-// A call's answer, with the cursor after it, which a refusal leaves as it was.
+// A call's answer, with the cursor after it, which a refusal leaves as it was. Such pairs are structs of their own (`Went`, the writer's `Step`):
+// callers name their fields by what they hold.
 #[derive(Clone, Copy, Debug, PartialEq, Eq)]
 pub struct Moved {
     pub answer: Result<Answer, Refusal>,

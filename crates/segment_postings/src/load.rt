@@ -35,6 +35,7 @@ pub(crate) struct FoundBlock<'a> {
 pub struct Taken {
     pub full: bool,
     pub n: usize,
+    // No `Option` beside `full`: a tail has a last id too, TERMINATED.
     pub last_doc: u32,
     // Of a tail: whether the numbers of all its ids were there.
     pub docs_there: bool,
@@ -52,14 +53,14 @@ pub struct Taken {
     pub unpacked: usize,
 }
 
-// How many blocks are unpacked, with one more, and whether the image keeps frequencies.
+// How many blocks are unpacked, with one more, and whether the image keeps frequencies, which document 02 asks of a block (Ask 6).
 #[derive(Clone, Copy)]
 pub(crate) struct Loaded {
     pub unpacked: usize,
     pub kept: bool,
 }
 
-// What was taken of a full block: its numbers are packed, so that none is missing.
+// What was taken of a full block: its numbers are packed, so that none is missing. Flags are parameters, since they are fields of `Taken`.
 fn full_taken(info: BlockInfo, freqs_nonzero: bool, kept: bool, unpacked: usize) -> Taken
     ensures { result ≡ full_taken_of info freqs_nonzero kept unpacked }
 {

@@ -29,7 +29,8 @@ fn freqs_to_ask(taken: Taken) -> usize
 impl<'a> LaidImage<'a> {
     // Walks over the blocks, by labelled loops over the blocks and the places of each, as document 01 asks: the first question that is
     // answered no ends the whole walk, from inside a block's places too. The tail ends the loop over the blocks from inside as well, so it has
-    // no range. `least` is one more than the id before; 64 bits hold any sum.
+    // no range. `least` is one more than the id before; 64 bits hold any sum. `ask_docs` and `ask_freqs` ask the same of a
+    // whole block, and can't be left at a place.
     fn walk(&self) -> Result<(), Refusal>
         ensures { result ≡ (reading self.now.term self.now.image.now).verdict }
     {
