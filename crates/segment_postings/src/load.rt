@@ -183,16 +183,15 @@ impl<'a> FoundBlock<'a> {
         let found = self.found;
         let counted = self.counted();
         let n = self.laid.term.count as usize % COMPRESSION_BLOCK_SIZE;
-        let mut ids = [TERMINATED; 128];
+        *docs = [TERMINATED; 128];
         *freqs = [1; 128];
-        let Some(behind) = uncompress_unsorted(image, found.at, &mut ids[..n]) else {
+        let Some(behind) = uncompress_unsorted(image, found.at, &mut docs[..n]) else {
             return Taken {
                 docs_there: false,
                 ..tail_taken(n, false, counted)
             };
         };
-        first_as_difference(&mut ids[..n], found.least);
-        *docs = ids;
+        first_as_difference(&mut docs[..n], found.least);
         let alone = full_blocks(self.laid.term.count) == 0;
         let kept = keeps_freqs(self.laid.layout.option, alone, n, image, behind);
         if !kept || n == 0 {
@@ -204,6 +203,7 @@ impl<'a> FoundBlock<'a> {
         if self.laid.term.requested == 0 {
             return tail_taken(n, kept, counted);
         }
+        // Apart: where some are missing, the lent array still holds 1 throughout.
         let mut counts = [1; 128];
         let Some(end) = uncompress_unsorted(image, behind, &mut counts[..n]) else {
             return Taken {
