@@ -110,7 +110,7 @@ pub fn answer_at(
 
 // Two arrays are lent, here and above: the calls on lent arrays have them so (document 01), and a struct of both would only be filled from them
 // and stored to them. They have a fixed length, and callers or the stack hold them: no heap is used.
-impl<'a> FoundBlock<'a> {
+impl FoundBlock<'_> {
     // Unpacks the block, and goes to its first place: questions 6 to 9. What a refusal leaves in the arrays, here and in all that
     // goes by this, isn't told: whoever may not lose them lends two of its own.
     fn unpack(&self, docs: &mut [u32; 128], freqs: &mut [u32; 128]) -> Result<Held, Refusal>
@@ -130,7 +130,7 @@ impl<'a> FoundBlock<'a> {
     }
 }
 
-impl<'a> LaidImage<'a> {
+impl LaidImage<'_> {
     // Goes to the first block from a block on whose last id is at least the target, and unpacks it: questions 5 to 9.
     pub(crate) fn land(
         &self,
@@ -203,8 +203,8 @@ pub fn open_in(
     Ok(held)
 }
 
-// The numbers, the image and the term go on as parameters, here and in `seek_behind`: each public call asks question 16 of them in a line and
-// answers numbers, so a struct of the three would be made and taken apart by each.
+// The numbers, the image and the term go on as parameters, here and in `seek_behind`: each public call asks question 16 of them, or whether the
+// place is one, in a line and answers numbers, so a struct of the three would be made and taken apart by each.
 //
 // Goes to another block, from a full one: questions 1 to 4 are asked again of the image that is passed, then 5 to 9. A lent
 // cursor that didn't come from this image may place its next block before the posting bytes.

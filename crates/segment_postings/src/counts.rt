@@ -48,8 +48,8 @@ pub(crate) fn docs_in(term: Term, block: usize) -> usize
     term.count as usize % COMPRESSION_BLOCK_SIZE
 }
 
-// The documents at the front of a block that two arrays hold. They come as slices: that a part of an array ends within it would be proved by a
-// name of the checker's own, which may change.
+// The documents at the front of a block that two arrays hold. They come as slices: tried as arrays, and the proof that a part
+// ends within one went by a name of the checker's own, which may change.
 fn block_below(term: Term, block: usize, docs: &[u32], freqs: &[u32], target: u32) -> Front
     requires { (length docs.now ≡ 128) × (length freqs.now ≡ 128) }
     ensures { FrontOf (take (docs_in_of term block) docs.now) (take (docs_in_of term block) freqs.now) target result }
@@ -58,7 +58,7 @@ fn block_below(term: Term, block: usize, docs: &[u32], freqs: &[u32], target: u3
     front_below(&docs[..n], &freqs[..n], target)
 }
 
-impl<'a> LaidImage<'a> {
+impl LaidImage<'_> {
     // A walk block by block to the first document at or above the target. Where the next block begins only the landing on this one says, so no
     // range or iterator goes over them. `read` walks alike, but does something else with a block and has no other end.
     fn total(&self, target: u32) -> Result<u64, Refusal>

@@ -53,7 +53,7 @@ fn entry_at(option: IndexRecordOption, skips: &[u8], at: usize) -> BlockInfo
     read_entry(option, skips, at).unwrap()
 }
 
-impl<'a> LaidImage<'a> {
+impl LaidImage<'_> {
     // From a block on, the first whose last id is at least the target, or the tail. Entries are read one by one, and each is asked question
     // 5, that of a block passed over too. A range, since a block's number is what is answered, and its entry is read at that number.
     pub(crate) fn find_block(&self, target: u32, from: Start) -> Result<Found, Refusal>

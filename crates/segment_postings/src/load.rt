@@ -143,7 +143,7 @@ fn ask_freqs(taken: Taken, freqs: &[u32; 128]) -> Result<(), Refusal>
     Ok(())
 }
 
-impl<'a> FoundBlock<'a> {
+impl FoundBlock<'_> {
     // The blocks unpacked, with this one.
     fn counted(&self) -> usize
         ensures { result ≡ self.now.unpacked + 1 }

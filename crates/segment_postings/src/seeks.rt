@@ -69,8 +69,7 @@ pub fn seek_in(
     if TERMINATED < target {
         return Err(Refusal::TargetTooLarge);
     }
-    let place = held.place;
-    if target <= docs[place] {
+    if target <= docs[held.place] {
         return Ok(held);
     }
     if target <= held.last_doc {
@@ -158,7 +157,7 @@ pub fn seek(cursor: SegmentPostings, image: &[u8], term: Term, target: u32) -> M
 }
 
 // Where a fresh cursor comes to that seeks once.
-pub(crate) fn seek_fresh(image: &[u8], term: Term, target: u32) -> Result<Held, Refusal>
+fn seek_fresh(image: &[u8], term: Term, target: u32) -> Result<Held, Refusal>
     ensures { result ≡ reached (seeking_fresh image.now term target) }
 {
     let mut docs = [0; 128];

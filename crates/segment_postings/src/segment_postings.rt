@@ -14,7 +14,7 @@ fn blank() -> SegmentPostings
     ensures { result ≡ blank }
 {
     SegmentPostings {
-        // As document 01 writes it.
+        // Document 01 names this form.
         docs: [2147483647; 128],
         held: Held {
             place: COMPRESSION_BLOCK_SIZE,
@@ -80,8 +80,7 @@ fn value_at(
     if held.at_end(term) {
         return Ok(end as u64);
     }
-    let place = held.place;
-    Ok(values[place] as u64)
+    Ok(values[held.place] as u64)
 }
 
 // The document at the position, TERMINATED at the end. It and the next are public calls by one function.
@@ -89,8 +88,7 @@ fn value_at(
 pub fn doc(cursor: SegmentPostings, image: &[u8], term: Term) -> Result<u64, Refusal>
     ensures { result ≡ doc_at cursor image.now term }
 {
-    let docs = cursor.docs;
-    value_at(&docs, TERMINATED, cursor.held, image, term)
+    value_at(&cursor.docs, TERMINATED, cursor.held, image, term)
 }
 
 // The frequency at the position, 0 at the end.
@@ -98,6 +96,5 @@ pub fn doc(cursor: SegmentPostings, image: &[u8], term: Term) -> Result<u64, Ref
 pub fn term_freq(cursor: SegmentPostings, image: &[u8], term: Term) -> Result<u64, Refusal>
     ensures { result ≡ freq_at cursor image.now term }
 {
-    let freqs = cursor.freqs;
-    value_at(&freqs, 0, cursor.held, image, term)
+    value_at(&cursor.freqs, 0, cursor.held, image, term)
 }

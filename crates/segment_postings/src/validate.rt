@@ -26,7 +26,7 @@ fn freqs_to_ask(taken: Taken) -> usize
     if taken.freqs_nonzero { 0 } else { taken.n }
 }
 
-impl<'a> LaidImage<'a> {
+impl LaidImage<'_> {
     // Walks over the blocks, by labelled loops over the blocks and the places of each, as document 01 asks: the first question that is
     // answered no ends the whole walk, from inside a block's places too. The tail ends the loop over the blocks from inside as well, so it has
     // no range. `least` is one more than the id before; 64 bits hold any sum. `ask_docs` and `ask_freqs` ask the same of a

@@ -20,7 +20,7 @@ fn put_block(term: Term, block: usize, values: &[u32], out: &mut [u32])
     out[at..at + n].copy_from_slice(&values[..n]);
 }
 
-impl<'a> LaidImage<'a> {
+impl LaidImage<'_> {
     // A walk block by block over an image that was found sound, so that none is refused. It goes as the total's does.
     fn read(&self, docs: &mut [u32], freqs: &mut [u32])
         requires { Walks self.now.term self.now.image.now (length docs.old) (length freqs.old) }

@@ -24,12 +24,12 @@ returns-then-target-gt-TERMINATED c =
     let before = sym c.at_end.ensures ∙ c.if-at_end.false in
     none-reached _ _ (seeking_too_large _ _ _ _ within before c.if-target-gt-TERMINATED.true)
 
-pub offset_bounds-docs-place : goal.offset_bounds-docs-place
-offset_bounds-docs-place c =
+pub offset_bounds-docs-held : goal.offset_bounds-docs-held
+offset_bounds-docs-held c =
     omega (arith, (bounded _ _ _ (sym c.in_bounds.ensures ∙ c.if-not-in_bounds.false)).place_below)
 
-pub bounds-docs-place : goal.bounds-docs-place
-bounds-docs-place c = (bounded _ _ _ (sym c.in_bounds.ensures ∙ c.if-not-in_bounds.false)).place_below
+pub bounds-docs-held : goal.bounds-docs-held
+bounds-docs-held c = (bounded _ _ _ (sym c.in_bounds.ensures ∙ c.if-not-in_bounds.false)).place_below
 
 pub returns-then-target-docs : goal.returns-then-target-docs
 returns-then-target-docs c =

@@ -18,11 +18,11 @@ unfolding value_at ask choose
 returns-then-at_end c =
     rw (sym c.in_bounds.ensures ∙ c.if-not-in_bounds.false, sym c.at_end.ensures ∙ c.if-at_end.true)
 
-pub offset_bounds-values-place : goal.offset_bounds-values-place
-offset_bounds-values-place c = omega (arith, bounded _ _ _ (sym c.in_bounds.ensures ∙ c.if-not-in_bounds.false))
+pub offset_bounds-values-held : goal.offset_bounds-values-held
+offset_bounds-values-held c = omega (arith, bounded _ _ _ (sym c.in_bounds.ensures ∙ c.if-not-in_bounds.false))
 
-pub bounds-values-place : goal.bounds-values-place
-bounds-values-place c = omega (arith, bounded _ _ _ (sym c.in_bounds.ensures ∙ c.if-not-in_bounds.false))
+pub bounds-values-held : goal.bounds-values-held
+bounds-values-held c = omega (arith, bounded _ _ _ (sym c.in_bounds.ensures ∙ c.if-not-in_bounds.false))
 
 pub returns : goal.returns
 unfolding value_at ask choose
