@@ -48,10 +48,15 @@ pub(crate) fn docs_in(term: Term, block: usize) -> usize
     term.count as usize % COMPRESSION_BLOCK_SIZE
 }
 
-// The documents at the front of a block that two arrays hold. They come as slices: tried as arrays, and the proof that a part
-// ends within one went by a name of the checker's own, which may change.
-fn block_below(term: Term, block: usize, docs: &[u32], freqs: &[u32], target: u32) -> Front
-    requires { (length docs.now ≡ 128) × (length freqs.now ≡ 128) }
+// The documents at the front of a block that two arrays hold.
+#[tactic(auto, using(crate::proofs::Admission::LandingReads::docs_in_most))]
+fn block_below(
+    term: Term,
+    block: usize,
+    docs: &[u32; 128],
+    freqs: &[u32; 128],
+    target: u32,
+) -> Front
     ensures { FrontOf (take (docs_in_of term block) docs.now) (take (docs_in_of term block) freqs.now) target result }
 {
     let n = docs_in(term, block);

@@ -10,9 +10,10 @@ use crate::layout::{LaidImage, full_blocks, lay_out};
 use crate::validate::validate;
 use format::{COMPRESSION_BLOCK_SIZE, Refusal, Term};
 
-// Copies a block's values to where they stand among those of all blocks. They come as a slice, as `block_below` says.
-fn put_block(term: Term, block: usize, values: &[u32], out: &mut [u32])
-    requires { (length values.now ≡ 128) × (128 * block + docs_in_of term block ≤ length out.old) }
+// Copies a block's values to where they stand among those of all blocks.
+#[tactic(auto, using(crate::proofs::Admission::LandingReads::docs_in_most))]
+fn put_block(term: Term, block: usize, values: &[u32; 128], out: &mut [u32])
+    requires { 128 * block + docs_in_of term block ≤ length out.old }
     ensures { out.new ≡ put_at (128 * block) (take (docs_in_of term block) values.now) out.old }
 {
     let n = docs_in(term, block);

@@ -9,10 +9,6 @@ use Rattle.format.specs.Basics.{put_at}
 use Rattle.segment_postings.proofs.Admission.LandingReads.{docs_in_most}
 use Rattle.segment_postings.proofs.whole.put_block.Goals as goal
 
-pub slice_bounds-copy_from_slice-end-2 : goal.slice_bounds-copy_from_slice-end-2
-slice_bounds-copy_from_slice-end-2 c =
-    sym (length-take-le _ c.args.values.now (omega (arith, c.docs_in-n.ensures, docs_in_most c.args.term c.args.block)))
-
 pub copy_from_slice-requires : goal.copy_from_slice-requires
 copy_from_slice-requires c =
     let most = docs_in_most c.args.term c.args.block in

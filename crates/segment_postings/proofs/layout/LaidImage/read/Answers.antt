@@ -24,12 +24,12 @@ unwrap-held-requires c =
 pub put_block-requires : goal.put_block-requires
 put_block-requires c =
     let held = turn-held _ _ _ c.loop-from.invariant.walks (landed_at c.land.ensures c.unwrap-held.ensures) in
-    (held.docs_room, docs_room c.loop-from.invariant held)
+    docs_room c.loop-from.invariant held
 
 pub put_block-requires-in-loop-from : goal.put_block-requires-in-loop-from
 put_block-requires-in-loop-from c =
     let held = turn-held _ _ _ c.loop-from.invariant.walks (landed_at c.land.ensures c.unwrap-held.ensures) in
-    (held.freqs_room, freqs_room c.loop-from.invariant held)
+    freqs_room c.loop-from.invariant held
 
 pub returns-then-blocks-from : goal.returns-then-blocks-from
 unfolding full_blocks_of
