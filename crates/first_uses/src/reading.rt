@@ -2,7 +2,7 @@
 
 use crate::telling::{tell, tell_answer, tell_refusal, tell_value};
 use postings::{
-    ANSWER_NUMBERS, Held, Refusal, TERMINATED, Term, advance, advance_by_lending, advance_in,
+    ANSWER_NUMBERS, Answer, Refusal, TERMINATED, Term, advance, advance_by_lending, advance_in,
     answer_at, doc, open, open_in, posting_bytes, rank, read, run_calls, seek, seek_by_lending,
     seek_in, skip_bytes, term_freq, total, validate,
 };
@@ -31,40 +31,26 @@ pub(crate) fn walk_lent(rt: &impl Print, image: &[u8], term: Term) -> io::Result
     tell_answer(rt, moved.answer)
 }
 
-// Steps and seeks on the caller's own two arrays, from the first document on.
-fn walk_on(
-    rt: &impl Print,
-    first: Held,
-    image: &[u8],
-    term: Term,
-    docs: &mut [u32; 128],
-    freqs: &mut [u32; 128],
-) -> io::Result<()> {
-    let Ok(held) = advance_in(first, image, term, docs, freqs) else {
-        return Ok(());
-    };
-    tell_answer(rt, answer_at(held, term, docs, freqs))?;
-    match seek_in(held, image, term, 300, docs, freqs) {
-        Ok(held) => tell_answer(rt, answer_at(held, term, docs, freqs)),
-        Err(refusal) => tell_refusal(rt, refusal),
-    }
+// A step and a seek on the caller's own two arrays, from the first document on: what stands where each came to.
+fn step_and_seek(image: &[u8], term: Term) -> Result<(Answer, Answer), Refusal> {
+    let mut docs = [TERMINATED; 128];
+    let mut freqs = [1; 128];
+    let held = open_in(image, term, &mut docs, &mut freqs)?;
+    let held = advance_in(held, image, term, &mut docs, &mut freqs)?;
+    let stepped = answer_at(held, term, &docs, &freqs)?;
+    let held = seek_in(held, image, term, 300, &mut docs, &mut freqs)?;
+    let sought = answer_at(held, term, &docs, &freqs)?;
+    Ok((stepped, sought))
 }
 
 // No cursor is copied where the caller holds its arrays, and its numbers beside them.
 pub(crate) fn walk_arrays(rt: &impl Print, image: &[u8], term: Term) -> io::Result<()> {
-    let mut docs = [TERMINATED; 128];
-    let mut freqs = [1; 128];
-    match open_in(image, term, &mut docs, &mut freqs) {
-        Ok(held) => walk_on(rt, held, image, term, &mut docs, &mut freqs),
+    match step_and_seek(image, term) {
+        Ok((stepped, sought)) => {
+            tell_answer(rt, Ok(stepped))?;
+            tell_answer(rt, Ok(sought))
+        }
         Err(refusal) => tell_refusal(rt, refusal),
-    }
-}
-
-// 0 where an image is sound, else the refusal's number.
-fn verdict_number(verdict: Result<(), Refusal>) -> u64 {
-    match verdict {
-        Ok(()) => 0,
-        Err(refusal) => refusal.number() as u64,
     }
 }
 
@@ -72,7 +58,7 @@ fn verdict_number(verdict: Result<(), Refusal>) -> u64 {
 pub(crate) fn ask(rt: &impl Print, image: &[u8]) -> io::Result<()> {
     tell_value(rt, "rank", rank(image, 1, 3, 300))?;
     tell_value(rt, "total", total(image, 1, 3, 300))?;
-    tell(rt, "validate", verdict_number(validate(image, 1, 3)))?;
+    tell_value(rt, "validate", validate(image, 1, 3).map(|()| 0))?;
     let skips = skip_bytes(image, 3);
     tell(rt, "skip_bytes", skips.len() as u64)?;
     let blocks = posting_bytes(image, 3);

@@ -1,9 +1,9 @@
 // A list written.
 
-use crate::telling::{tell, tell_refusal, tell_value};
+use crate::telling::{tell_refusal, tell_value};
 use postings::{
-    Progress, Refusal, ask_list, close_term, close_term_in, new_term, new_term_in, write_doc,
-    write_doc_in, write_list,
+    Refusal, ask_list, close_term, close_term_in, new_term, new_term_in, write_doc, write_doc_in,
+    write_list,
 };
 use std::io;
 
@@ -51,41 +51,19 @@ fn tell_written(rt: &impl Print, answer: Result<usize, Refusal>) -> io::Result<(
     tell_value(rt, "bytes", answer.map(|n| n as u64))
 }
 
-// Hands a document in that waits in two arrays of the caller's own: the numbers behind it, or the same where it is refused.
-fn write_one(
-    rt: &impl Print,
-    progress: Progress,
-    doc: u32,
-    freq: u32,
-    docs: &mut [u32; 128],
-    freqs: &mut [u32; 128],
-    skips: &mut [u8],
-    postings: &mut [u8],
-) -> io::Result<Progress> {
-    match write_doc_in(progress, doc, freq, docs, freqs, skips, postings) {
-        Ok(next) => {
-            tell(rt, "taken", 1)?;
-            Ok(next)
-        }
-        Err(refusal) => {
-            tell_refusal(rt, refusal)?;
-            Ok(progress)
-        }
-    }
-}
-
-// The same with two arrays of the caller's own, in which documents wait, and the state's numbers beside them: no call copies a state.
+// The same with two arrays of the caller's own, in which documents wait, and the state's numbers beside them: no call copies a state. A
+// document that is refused leaves the numbers as they were.
 pub(crate) fn write_on_arrays(rt: &impl Print, output: &mut [u8]) -> io::Result<()> {
     let mut docs = [0u32; 128];
     let mut freqs = [0u32; 128];
     let mut skips = [0u8; 8];
     let mut postings = [0u8; 1008];
-    let Ok(mut progress) = new_term_in(1, true) else {
-        return Ok(());
+    let mut progress = match new_term_in(1, true) {
+        Ok(first) => first,
+        Err(refusal) => return tell_refusal(rt, refusal),
     };
     for (doc, freq) in [(3, 1), (7, 2), (300, 130)] {
-        progress = write_one(
-            rt,
+        let next = write_doc_in(
             progress,
             doc,
             freq,
@@ -93,7 +71,9 @@ pub(crate) fn write_on_arrays(rt: &impl Print, output: &mut [u8]) -> io::Result<
             &mut freqs,
             &mut skips,
             &mut postings,
-        )?;
+        );
+        tell_accepted(rt, next.map(|_| ()))?;
+        progress = next.unwrap_or(progress);
     }
     let closed = close_term_in(progress, 3, &docs, &freqs, &skips, &postings, output);
     tell_written(rt, closed.answer)
