@@ -7,7 +7,6 @@ use mathlib.Core.Bool.{Bool, true, false}
 use mathlib.Core.List.{List, [], ◌∷◌}
 use mathlib.Core.Path.{◌≡◌, refl, sym, ap, ◌∙◌}
 use Prim.Native.Nat.{ℕ, suc, ◌+◌, ◌-◌, ◌*◌, ◌≤◌, ◌<◌, ◌^◌}
-use native.Mathlib.Nat.{zero-add}
 use native.Mathlib.Numerals.{add-one}
 use native.Mathlib.Omega.{arith}
 use borrow.Author.Tests.{lt-ltb, le-ltb}
@@ -103,18 +102,15 @@ row-long line a b e =
 
 -- ---- a line in two parts at its first space
 
-module _ (line : List ℕ) (space : ℕ) (found : space ≡ 0 + length (up_to 32 (drop 0 line))) where
+pub no_space : (line : List ℕ) → length (up_to 32 line) ≡ length line → row line ≡ None
+unfolding row number
+no_space line all =
+    let none : behind 32 line ≡ [] = sym (behind-drop 32 line) ∙ drop_of_length-le line {i = suc (length (up_to 32 line))} (omega (arith, all)) in
+    rw none (both-none (number (up_to 32 line)))
+
+module _ (line : List ℕ) (space : ℕ) (size : space ≡ length (up_to 32 line)) where
   abbrev rest : List ℕ
   rest = take (length line - (space + 1)) (drop (space + 1) line)
-
-  size : space ≡ length (up_to 32 line)
-  size = found ∙ zero-add _
-
-  pub no_space : space ≡ length line → row line ≡ None
-  unfolding row number
-  no_space all =
-      let none : behind 32 line ≡ [] = sym (behind-drop 32 line) ∙ drop_of_length-le line {i = suc (length (up_to 32 line))} (omega (arith, size)) in
-      rw none (both-none (number (up_to 32 line)))
 
   rest-is : rest ≡ behind 32 line
   rest-is =

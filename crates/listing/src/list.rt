@@ -13,7 +13,7 @@ use serializer::write_list;
 
 // What is lent: an array, since the project has no heap. A function makes it, since of an array that is written where it is lent the
 // prover counts the places.
-fn area<T: Copy, const N: usize>(zero: T) -> [T; N]
+pub(crate) fn area<T: Copy, const N: usize>(zero: T) -> [T; N]
     ensures { length result ≡ N }
 {
     [zero; N]
@@ -44,8 +44,8 @@ fn put_steps(image: &[u8], term: Term, output: &mut [u8], at: usize) -> usize
 }
 
 // Puts the listing of two columns.
-fn list_columns(ids: &[u32], freqs: &[u32], output: &mut [u8]) -> usize
-    requires { (length ids.now ≤ 16384) × (length output.old ≡ 1048576) }
+fn list_columns(ids: &[u32], freqs: &[u32], output: &mut [u8; 1048576]) -> usize
+    requires { length ids.now ≤ 16384 }
     ensures { Puts (listing ids.now freqs.now) 0 output.old output.new result }
 {
     // Room for the entries of 128 full blocks at most, 8 bytes each; for the blocks, 1,024 bytes each at most; and for both with the
@@ -68,8 +68,7 @@ fn list_columns(ids: &[u32], freqs: &[u32], output: &mut [u8]) -> usize
 }
 
 // Puts the listing of a table that is given as text.
-pub(crate) fn list_table(text: &[u8], output: &mut [u8]) -> usize
-    requires { length output.old ≡ 1048576 }
+pub(crate) fn list_table(text: &[u8], output: &mut [u8; 1048576]) -> usize
     ensures { Puts (listing_of text.now) 0 output.old output.new result }
 {
     if 65536 < text.len() {

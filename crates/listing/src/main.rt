@@ -9,21 +9,16 @@ mod table;
 mod text;
 
 use input::read_full;
-use list::list_table;
+use list::{area, list_table};
 use std::io;
-
-// Room for the longest listing: the header and 16,385 lines of 63 bytes at most. Its length is in the type alone: to prove a clause that
-// says it the prover would count up to it.
-fn output_buffer() -> [u8; 1048576] {
-    [0; 1048576]
-}
 
 // A read that fails counts as the end of the input; a write that fails ends the program with its error.
 fn main(rt: HostRuntime) -> io::Result<()> {
     // Room for the longest input that is taken, and one byte more, which shows that an input is longer.
     let mut input = [0u8; 65537];
     let size = read_full(&mut rt.stdin(), &mut input);
-    let mut output = output_buffer();
+    // Room for the longest listing: the header and 16,385 lines of 63 bytes at most.
+    let mut output = area::<u8, 1048576>(0);
     let end = list_table(&input[..size], &mut output);
     rt.write_all(&output[..end])
 }

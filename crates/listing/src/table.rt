@@ -10,18 +10,18 @@ pub enum Order {
     FreqDoc,
 }
 
-// Where the first `byte` from place `at` on stands; where there is none, the end.
-fn find(text: &[u8], at: usize, byte: u8) -> usize
+// Where the line that begins at place `at` ends: at its line feed, or with the text.
+fn line_end(text: &[u8], at: usize) -> usize
     requires { at ≤ length text.now }
-    ensures { (result ≡ at + length (up_to byte (drop at text.now))) × (result ≤ length text.now) }
+    ensures { (result ≡ at + length (up_to 10 (drop at text.now))) × (result ≤ length text.now) }
 {
-    match text[at..].iter().position(|&b| b == byte) {
+    match text[at..].iter().position(|&b| b == b'\n') {
         Some(passed) => at + passed,
         None => text.len(),
     }
 }
 
-// Reads a number: decimal digits alone, below 2 ^ 32.
+// Reads a number: decimal digits alone, below 2 ^ 32. Not by `parse`, which takes a sign in front.
 fn read_number(text: &[u8]) -> Option<u32>
     ensures { result ≡ number text.now }
 {
@@ -42,16 +42,13 @@ fn read_number(text: &[u8]) -> Option<u32>
 fn read_row(line: &[u8]) -> Option<(u32, u32)>
     ensures { result ≡ row line.now }
 {
-    let space = find(line, 0, b' ');
-    if space == line.len() {
-        return None;
-    }
+    let space = line.iter().position(|&b| b == b' ')?;
     let first = read_number(&line[..space])?;
     let second = read_number(&line[space + 1..])?;
     Some((first, second))
 }
 
-// Reads the line of names.
+// Reads the line of names. By `==`: as a `match` over the two names it was tried, and the proof didn't close.
 #[tactic(auto, unfolding(crate::specs::Input::names, format::specs::Basics::choose))]
 fn read_names(line: &[u8]) -> Option<Order>
     ensures { result ≡ names line.now }
@@ -68,14 +65,19 @@ fn read_names(line: &[u8]) -> Option<Order>
 // Reads the rows from place `start` on into two columns: how many there are, `None` where a line is none. A row takes four bytes or
 // more, so that there is room for all of them. The loop goes by places: of a text that ends in a line feed `split` would give an empty line
 // more. The columns are two slices, as `write_list` takes them.
-fn read_rows(text: &[u8], start: usize, firsts: &mut [u32], seconds: &mut [u32]) -> Option<usize>
-    requires { (length text.now ≤ 65536) × (length firsts.old ≡ 16384) × (length seconds.old ≡ 16384) }
+fn read_rows(
+    text: &[u8],
+    start: usize,
+    firsts: &mut [u32; 16384],
+    seconds: &mut [u32; 16384],
+) -> Option<usize>
+    requires { length text.now ≤ 65536 }
     ensures { Reads (rows (lines (drop start text.now))) firsts.new seconds.new result }
 {
     let mut at = start;
     let mut n = 0;
     while at < text.len() {
-        let end = find(text, at, b'\n');
+        let end = line_end(text, at);
         let (first, second) = read_row(&text[at..end])?;
         firsts[n] = first;
         seconds[n] = second;
@@ -86,11 +88,15 @@ fn read_rows(text: &[u8], start: usize, firsts: &mut [u32], seconds: &mut [u32])
 }
 
 // Reads a table into its columns: how many rows there are, `None` where the text is no table.
-pub(crate) fn read_table(text: &[u8], ids: &mut [u32], freqs: &mut [u32]) -> Option<usize>
-    requires { (length text.now ≤ 65536) × (length ids.old ≡ 16384) × (length freqs.old ≡ 16384) }
+pub(crate) fn read_table(
+    text: &[u8],
+    ids: &mut [u32; 16384],
+    freqs: &mut [u32; 16384],
+) -> Option<usize>
+    requires { length text.now ≤ 65536 }
     ensures { Reads (table text.now) ids.new freqs.new result }
 {
-    let end = find(text, 0, b'\n');
+    let end = line_end(text, 0);
     let start = end + 1;
     match read_names(&text[..end])? {
         Order::DocFreq => read_rows(text, start, ids, freqs),

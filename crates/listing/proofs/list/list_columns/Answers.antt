@@ -18,7 +18,7 @@ small fs fits = AllBelow-of {m = 2 ^ 32} fs (λ i. omega (arith, fits i))
 
 -- what is known once the list is written
 reads : (c : In-Ok) → Wrote c.args.ids.now c.args.freqs.now c.write_list.new.output c.in-Ok.size
-reads c = wrote _ _ _ _ _ c.requires.0 (small _ c.type_inv.freqs) c.write_list.ensures _ c.in-Ok.is
+reads c = wrote _ _ _ _ _ c.requires (small _ c.type_inv.freqs) c.write_list.ensures _ c.in-Ok.is
 
 pub slice_bounds-image-end : goal.slice_bounds-image-end
 slice_bounds-image-end c = (reads (goal.at.slice_bounds-image-end c).In-Ok).within
@@ -45,5 +45,5 @@ returns-in-Err c =
     let skips = c.area-skips.ensures in
     let postings = c.area-postings.ensures in
     let image = c.area-image.ensures in
-    rw (wrote_none _ _ _ _ _ c.requires.0 (small _ c.type_inv.freqs) c.write_list.ensures _ skips postings image c.in-Err.is)
+    rw (wrote_none _ _ _ _ _ c.requires (small _ c.type_inv.freqs) c.write_list.ensures _ skips postings image c.in-Err.is)
     c.put_refusal.ensures

@@ -8,19 +8,19 @@ use Rattle.listing.proofs.Numbers.{row-long}
 use Rattle.listing.proofs.table.read_rows.Goals as goal
 
 pub loop-at-init : goal.loop-at-init
-loop-at-init c = none_read _ c.args.start c.requires.1 c.requires.2
+loop-at-init c = none_read _ c.args.start (omega arith) (omega arith)
 
 pub returns-in_err-first : goal.returns-in_err-first
 returns-in_err-first c =
     let none = sym c.read_row.ensures ∙ c.in_err-first.was in
     rw c.from_residual.ensures
-    (not-read _ c.loop-at.invariant c.loop-at-test.true (rw (line_part _ c.loop-at.at c.find-end.result c.find-end.ensures.0) at none))
+    (not-read _ c.loop-at.invariant c.loop-at-test.true (rw (line_part _ c.loop-at.at c.line_end-end.result c.line_end-end.ensures.0) at none))
 
 pub loop-at-preserved : goal.loop-at-preserved
 loop-at-preserved c =
     let told = sym c.read_row.ensures ∙ c.in_ok-first.was in
-    let two = rw (line_part _ c.loop-at.at c.find-end.result c.find-end.ensures.0) at told in
-    one-read _ c.loop-at.invariant c.loop-at-test.true _ _ _ two (row-long _ _ _ two) (omega arith) (ap (λ (n : ℕ). n + 1) c.find-end.ensures.0)
+    let two = rw (line_part _ c.loop-at.at c.line_end-end.result c.line_end-end.ensures.0) at told in
+    one-read _ c.loop-at.invariant c.loop-at-test.true _ _ _ two (row-long _ _ _ two) (omega arith) (ap (λ (n : ℕ). n + 1) c.line_end-end.ensures.0)
 
 pub returns : goal.returns
 returns c = all_read _ c.loop-at.invariant c.loop-at-test.false
