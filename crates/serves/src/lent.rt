@@ -1,5 +1,5 @@
-// A step on a record that its caller lends, by the call by value, and the same by value once more: the first use of `thin`'s theorems over one
-// record. The record and its answer stand in for a cursor's.
+// A step on a record that its caller lends, by the call by value, and the same by value once more: the first use of `thin`'s theorems over
+// one record, which fix the form of `step_mut` and `step_by_lending`. The record and its answer stand in for a cursor's.
 
 ghost use Rattle.std.specs.Prelude.{◌≡◌};
 ghost use Rattle.serves.specs.Lent.{stepped, LeavesPlace};
