@@ -1,4 +1,5 @@
-// For measuring: many seeks on one cursor whose block stays in two arrays, so that no call copies it.
+// For measuring: many seeks on one cursor whose block stays in two arrays, so that no call copies it. Modes are bytes, and slices stand
+// side by side, since C hands them in so; the two arrays of a block do, since `open_in` takes them so.
 
 #![tactic(auto)]
 
@@ -28,7 +29,8 @@ fn put_answer(
     freqs[at] = answer.freq;
 }
 
-// Opens a list and seeks the targets in order, up to the first refusal: how many were served.
+// Opens a list and seeks the targets in order, up to the first refusal: how many were served. Places are counted, since that number is
+// answered: zipped and counted a turn would be `(i, ((&target, doc), freq))`, which is no plainer.
 fn seek_each(
     image: &[u8],
     term: Term,
