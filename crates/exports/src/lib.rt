@@ -1,5 +1,5 @@
 // The library for Rust and C: functions of plain numbers and slices. Each answers one number. Modes and flags are bytes, and slices stand
-// side by side, since C hands them in.
+// side by side, since C hands them in; and each name that C calls has a function, also where two differ in one call.
 
 #![tactic(auto)]
 

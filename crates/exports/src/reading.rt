@@ -52,7 +52,7 @@ pub extern "C" fn vilthorwy_total(mode: u8, count: u32, image: &[u8], target: u3
     code(total(image, mode, count, target))
 }
 
-// 0 where an image is sound, else the refusal's number.
+// 0 where an image is sound, else the refusal's number: without the mark of `code`, since no other number is asked for.
 #[tactic(auto, unfolding(serializer::specs::Calls::accepted_number))]
 #[unsafe(no_mangle)]
 pub extern "C" fn vilthorwy_validate(mode: u8, count: u32, image: &[u8]) -> u64
