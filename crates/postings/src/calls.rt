@@ -32,7 +32,8 @@ enum Coded {
     SeekByLending(u32),
 }
 
-// What a number codes, if its kind is known: it is kind * 2 ^ 32 + target, and an advance ignores the target.
+// What a number codes, if its kind is known: it is kind * 2 ^ 32 + target, and an advance ignores the target. It is no `TryFrom`, whose
+// error would be a type that nothing reads; and `%` gives the low half, since `as` may lose no bits.
 #[tactic(auto, unfolding(crate::specs::RunCalls::kind_of, crate::specs::RunCalls::target_of, crate::specs::RunCalls::call_of, crate::specs::RunCalls::meant, format::specs::Basics::choose))]
 fn decode(code: u64) -> Option<Coded>
     ensures { Decodes code result }
@@ -95,7 +96,8 @@ fn put_answer(answer: Result<Answer, Refusal>, answers: &mut [u64], at: usize)
     answers[at..at + ANSWER_NUMBERS].copy_from_slice(&numbers);
 }
 
-// Makes the calls in order, each on the cursor as the last one left it, and writes their answers behind opening's.
+// Makes the calls in order, each on the cursor as the last one left it, and writes their answers behind opening's. Each answer's place
+// is computed, since no clause of the library says what `as_chunks_mut` leaves in the slice.
 fn run_from(opened: Moved, image: &[u8], term: Term, calls: &[u64], answers: &mut [u64])
     requires { (all_known calls.now ≡ true) × (answer_length * (length calls.now + 1) ≤ length answers.old) }
     ensures { answers.new ≡ put_at answer_length (all_numbers (calls_from image.now term opened.cursor (map call_of calls.now))) answers.old }
