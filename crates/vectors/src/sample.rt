@@ -27,7 +27,7 @@ pub(crate) fn short_at(input: &[u8], at: usize) -> usize
     u16::from_le_bytes([input[at], input[at + 1]]) as usize
 }
 
-// The 32-bit number at place `at`.
+// The 32-bit number at place `at`. A shared function for it would want a `requires` or a test (crates/common/src/lib.rt).
 fn word_at(input: &[u8], at: usize) -> u32
     requires { at + 4 ≤ length input.now }
     ensures { result ≡ four_bytes input.now at }
