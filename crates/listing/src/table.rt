@@ -48,7 +48,7 @@ fn read_row(line: &[u8]) -> Option<(u32, u32)>
     Some((first, second))
 }
 
-// Reads the line of names. By `==`: as a `match` over the two names it was tried, and the proof didn't close.
+// Reads the line of names. By `==`: tried as a `match` over the two names, and the check found no proof.
 #[tactic(auto, unfolding(crate::specs::Input::names, format::specs::Basics::choose))]
 fn read_names(line: &[u8]) -> Option<Order>
     ensures { result ≡ names line.now }
@@ -63,8 +63,8 @@ fn read_names(line: &[u8]) -> Option<Order>
 }
 
 // Reads the rows from place `start` on into two columns: how many there are, `None` where a line is none. A row takes four bytes or
-// more, so that there is room for all of them. The loop goes by places: of a text that ends in a line feed `split` would give an empty line
-// more. The columns are two slices, as `write_list` takes them.
+// more, so that there is room for all of them. The loop goes by places: over `split_inclusive`
+// it was tried, and the proof didn't close. The columns are two arrays, since `write_list` takes two slices.
 fn read_rows(
     text: &[u8],
     start: usize,
