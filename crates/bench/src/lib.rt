@@ -29,8 +29,8 @@ fn put_answer(
     freqs[at] = answer.freq;
 }
 
-// Opens a list and seeks the targets in order, up to the first refusal: how many were served. Places are counted, since that number is
-// answered: zipped and counted a turn would be `(i, ((&target, doc), freq))`, which is no plainer.
+// Opens a list and seeks the targets in order, up to the first refusal: how many were served. The loop goes by places: over the targets
+// zipped with both slices' `iter_mut` it was tried, and the proof didn't close.
 fn seek_each(
     image: &[u8],
     term: Term,
