@@ -35,7 +35,7 @@ fn word_at(input: &[u8], at: usize) -> u32
     u32_from_le_bytes(input[at], input[at + 1], input[at + 2], input[at + 3])
 }
 
-// So many 32-bit numbers from place `at` on. Each stands at a place that the loop counts: over `iter_mut` the proof's terms were unwieldy.
+// So many 32-bit numbers from place `at` on. Each stands at a place that the loop counts: over `iter_mut` the proof didn't close.
 pub(crate) fn words_at(input: &[u8], at: usize, count: usize) -> [u32; 512]
     requires { (count ≤ 512) × (at + 4 * count ≤ length input.now) }
     ensures { (length result ≡ 512) × (take count result ≡ words input.now at count) }
