@@ -1,16 +1,16 @@
 // What several crates do with bytes and 32-bit numbers: whether a run of bytes lies within others, bytes put into an area that a
-// caller lends, and numbers in four bytes. Named for the Rust's crate of such helpers.
+// caller lends, and numbers in four bytes. Named as the Rust crate of such helpers.
 
 #![tactic(auto)]
 
 ghost use Rattle.std.specs.Prelude.{◌≡◌, ◌+◌, ◌*◌, leb};
 ghost use Rattle.format.specs.Basics.{put_at, next_at, le32};
 
-// Whether `size` bytes from place `at` on lie within `len`; no sum of the two is made, which might wrap.
+// Whether `size` bytes from place `at` on lie within `len`.
 pub fn within(at: usize, size: usize, len: usize) -> bool
     ensures { result ≡ leb (at + size) len }
 {
-    size <= len && at <= len - size
+    at.checked_add(size).is_some_and(|end| end <= len)
 }
 
 // Copies `bytes` into `area` from place `at` on: the place behind them. Where they don't fit, nothing is written.
@@ -26,6 +26,8 @@ pub fn put(bytes: &[u8], area: &mut [u8], at: usize) -> Option<usize>
     area[at..end].copy_from_slice(bytes);
     Some(end)
 }
+
+// This and the next stay beside std's methods, which they call, since public names stay.
 
 // The number whose bytes are a, b, c, d, lowest first. The compiler makes one load of it where they lie side by side. Who reads them of
 // a slice does so in a private function of three lines, whose contract is `four_bytes` and which then needs no proof file: here it would
