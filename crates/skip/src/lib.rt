@@ -1,4 +1,5 @@
-// Skip entries, read and written, and what they hold by record option.
+// Skip entries, read and written, and what they hold by record option. The functions of an option or an entry are no methods, since the
+// types are crate format's, and an impl of them can't stand in another crate.
 
 #![tactic(auto)]
 
@@ -39,7 +40,8 @@ pub fn known_mode(mode: u8) -> bool
     mode <= 1
 }
 
-// What a list of this mode keeps, by whether its frequencies are recorded.
+// What a list of this mode keeps, by whether its frequencies are recorded. Mode and recording stay two parameters, here and in the crates
+// above: a caller may hand in any number as the mode, and question 1 refuses the others.
 #[tactic(auto, unfolding(format::specs::Accepted::kept_in, format::specs::Basics::choose))]
 pub fn record_option(mode: u8, recording: bool) -> IndexRecordOption
     ensures { result ≡ kept_in mode recording }
@@ -91,11 +93,7 @@ fn read_block_info(option: IndexRecordOption, skips: &[u8], at: usize) -> BlockI
 pub fn read_entry(option: IndexRecordOption, skips: &[u8], at: usize) -> Option<BlockInfo>
     ensures { result ≡ entry_at option skips.now at }
 {
-    if within(at, entry_size(option), skips.len()) {
-        Some(read_block_info(option, skips, at))
-    } else {
-        None
-    }
+    within(at, entry_size(option), skips.len()).then(|| read_block_info(option, skips, at))
 }
 
 // The document width, with the bit of a strict block.
@@ -104,7 +102,7 @@ fn width_byte(info: BlockInfo) -> u8
     requires { info.doc_width < 32 }
     ensures { result ≡ width_byte_of info }
 {
-    info.doc_width + if info.strict { 64 } else { 0 }
+    info.doc_width + 64 * u8::from(info.strict)
 }
 
 // Writes an entry at place `at`. Where the document width has more than its five bits, or the entry doesn't fit, nothing is written.
