@@ -4,7 +4,7 @@ use Rattle.format.specs.declared.refusal.Refusal.TheVariants.{NoRoom, StateBroke
 use Rattle.std.specs.Prelude.{◌≡◌, ℕ, ◌+◌, ◌<◌, ◌≤◌, Bool, true, ◌&&◌ as and, List, [], ◌∷◌, length, nat_lt, Ok, Err}
 use Rattle.format.specs.declared.BlockInfo.{BlockInfo}
 use Rattle.format.specs.declared.IndexRecordOption.{IndexRecordOption}
-use Rattle.format.specs.Basics.{Outcome, and_then, ask, put_at, TERMINATED, choose, fits_at}
+use Rattle.format.specs.Basics.{Outcome, and_then, ask, put_at, TERMINATED, choose, fits_at, or_before}
 use Rattle.format.specs.SkipEntry.{entry_size_of, block_size_of}
 use Rattle.format.specs.Written.{entry_of, block_of, image_with}
 use Rattle.format.specs.Accepted.{take_doc}
@@ -12,7 +12,8 @@ use Rattle.serializer.specs.declared.PostingsSerializer.{PostingsSerializer}
 use Rattle.serializer.specs.declared.block.Places.{Places}
 use Rattle.serializer.specs.declared.image.Image.{Image}
 use Rattle.serializer.specs.declared.Progress.{Progress}
-use Rattle.serializer.specs.Writer.{bounds_hold, option_of, first_least_of, least_after_of, waiting_docs}
+use Rattle.serializer.specs.Calls.{answered}
+use Rattle.serializer.specs.Writer.{bounds_hold, option_of, first_least_of, least_after_of, waiting_docs, closing}
 
 -- ---- a block
 
@@ -65,6 +66,11 @@ pub record BytesPut (p : ℕ) (bs area area' : List ℕ) (r : ℕ) : Type 0 wher
 pub record ImagePut (image output output' : List ℕ) (r : Outcome ℕ) : Type 0 where
   pub answer : r ≡ choose (fits_at 0 image output) (λ _. Ok (length image)) (λ _. Err NoRoom)
   pub output_after : output' ≡ put_at 0 image output
+
+-- what closing answers, and the image at the output's front
+pub record TermClosed (s : PostingsSerializer) (announced : ℕ) (skips postings output output' : List ℕ) (r : Outcome ℕ) : Type 0 where
+  pub answer : r ≡ answered length (closing s announced skips postings output)
+  pub output_after : output' ≡ or_before (λ image. put_at 0 image output) (closing s announced skips postings output) output
 
 -- ---- question 16
 

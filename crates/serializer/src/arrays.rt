@@ -4,6 +4,7 @@
 ghost use Rattle.std.specs.Prelude.{◌≡◌};
 ghost use Rattle.format.specs.Accepted.{begin};
 ghost use Rattle.serializer.specs.Calls.{progress_of_of, progressed, state_of, TookIn, ClosedFrom};
+ghost use Rattle.serializer.specs.Pieces.{TermClosed};
 ghost use Rattle.serializer.specs.Writer.{fresh};
 
 use crate::{ClosedIn, Progress};
@@ -24,6 +25,28 @@ impl Progress {
             skips_at: 0,
             postings_at: 0,
         }
+    }
+
+    // Questions 16 and 14, and then the image, where it fits.
+    fn close(
+        self,
+        announced: u32,
+        docs: &[u32; 128],
+        freqs: &[u32; 128],
+        skips: &[u8],
+        postings: &[u8],
+        output: &mut [u8],
+    ) -> Result<usize, Refusal>
+        ensures { TermClosed (state_of self docs.now freqs.now) announced skips.now postings.now
+            output.old output.new result }
+    {
+        if !self.in_bounds(docs, freqs, skips.len(), postings.len()) {
+            return Err(Refusal::StateBroken);
+        }
+        if self.taken != announced {
+            return Err(Refusal::CountMismatch);
+        }
+        self.put_term(docs, freqs, skips, postings, output)
     }
 }
 
@@ -74,19 +97,7 @@ pub fn close_term_in(
     ensures { ClosedFrom (state_of progress docs.now freqs.now) announced skips.now postings.now
         output.old output.new result }
 {
-    if !progress.in_bounds(docs, freqs, skips.len(), postings.len()) {
-        return ClosedIn {
-            answer: Err(Refusal::StateBroken),
-            progress,
-        };
-    }
-    if progress.taken != announced {
-        return ClosedIn {
-            answer: Err(Refusal::CountMismatch),
-            progress,
-        };
-    }
-    let answer = progress.put_term(docs, freqs, skips, postings, output);
+    let answer = progress.close(announced, docs, freqs, skips, postings, output);
     ClosedIn {
         answer,
         progress: match answer {

@@ -1,7 +1,7 @@
 // Question 16 of document 01: whether the numbers of a lent state are in bounds. It is asked of every waiting document at each call, so
 // its loops have no branch inside: they become vector code. Each no is a return of its own, since the proof goes by which test said it.
 
-ghost use Rattle.std.specs.Prelude.{◌≡◌, ℕ, ◌<◌, ◌≤◌, not, ◌&&◌ as and, ◌||◌ as or, List, length, take};
+ghost use Rattle.std.specs.Prelude.{◌≡◌, ℕ, ◌<◌, ◌≤◌, not, ◌&&◌ as and, ◌||◌ as or, List, length};
 ghost use Rattle.format.specs.Accepted.{kept_in};
 ghost use Rattle.format.specs.SkipEntry.{has_freq_of};
 ghost use Rattle.format.specs.Values.{rising, countable};
@@ -13,15 +13,6 @@ use crate::Progress;
 use crate::block::last_of;
 use format::{IndexRecordOption, TERMINATED};
 use skip::{has_freq, known_mode, record_option};
-
-// The first n of some values. Written `&docs[..n]` at an array, the proof that n is within it would go by a name of the checker's own, which
-// may change.
-pub(crate) fn front(values: &[u32], n: usize) -> &[u32]
-    requires { n ≤ length values.now }
-    ensures { result.now ≡ take n values.now }
-{
-    &values[..n]
-}
 
 // Whether each id lies above the one before it. An index, since `zip` and `windows` take a tenth longer (they become vector code too), and `all`
 // three times as long.
@@ -106,12 +97,7 @@ impl Progress {
             return false;
         }
         let least = self.first_least();
-        if !documents_wait(
-            self.option(),
-            front(docs, waiting),
-            front(freqs, waiting),
-            least,
-        ) {
+        if !documents_wait(self.option(), &docs[..waiting], &freqs[..waiting], least) {
             return false;
         }
         if TERMINATED < self.taken {

@@ -10,11 +10,10 @@ ghost use Rattle.serializer.specs.Writer.{least_after_of};
 
 use crate::Progress;
 use crate::block::{Places, write_block};
-use crate::bounds::front;
 use format::{IndexRecordOption, Refusal, TERMINATED};
 use skip::has_freq;
 
-// The least id that may come behind some ids, given the least that the first of them may have.
+// The least id that may come behind some ids, given the least that the first of them may have. Tried: `map_or`, whose proof didn't close.
 fn least_after(least: u64, docs: &[u32]) -> u64
     ensures { result ≡ least_after_of least docs.now }
 {
@@ -31,7 +30,8 @@ fn freq_counts(option: IndexRecordOption, freq: u32) -> bool
     !has_freq(option) || 1 <= freq
 }
 
-// Questions 11 to 13; the least id that may come behind the document.
+// Questions 11 to 13; the least id that may come behind the document. Here and below id and frequency stay two parameters, as the public
+// calls have them: a struct of both would be taken apart at each question.
 pub(crate) fn ask_doc(
     option: IndexRecordOption,
     least: u64,
@@ -54,6 +54,7 @@ pub(crate) fn ask_doc(
 
 impl Progress {
     // What is asked before a document is taken: 16, 11 to 13, and 16 where as many are taken as can be.
+    #[tactic(auto, using(crate::proofs::bounds::Question16::few_fit))]
     pub(crate) fn may_take(
         self,
         doc: u32,
@@ -69,7 +70,7 @@ impl Progress {
             return Err(Refusal::StateBroken);
         }
         let option = self.option();
-        let least = least_after(self.first_least(), front(docs, self.waiting));
+        let least = least_after(self.first_least(), &docs[..self.waiting]);
         ask_doc(option, least, doc, freq)?;
         if TERMINATED <= self.taken {
             return Err(Refusal::StateBroken);

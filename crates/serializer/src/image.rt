@@ -9,7 +9,6 @@ ghost use Rattle.serializer.specs.Pieces.{bytes_of, BytesPut, ImagePut};
 ghost use Rattle.serializer.specs.Writer.{first_least_of, in_bounds_of, image_of};
 
 use crate::Progress;
-use crate::bounds::front;
 use common::{put, within};
 use format::{IndexRecordOption, Refusal};
 use skip::has_freq;
@@ -125,6 +124,7 @@ impl Progress {
     }
 
     // Writes the image of a state that is in bounds at the front of the output.
+    #[tactic(auto, using(crate::proofs::bounds::Question16::few_fit), unfolding(crate::specs::Writer::in_bounds_of))]
     pub(crate) fn put_term(
         self,
         docs: &[u32; 128],
@@ -143,8 +143,8 @@ impl Progress {
             postings: &postings[..self.postings_at],
             option: self.option(),
             offset: self.tail_offset(),
-            docs: front(docs, self.waiting),
-            freqs: front(freqs, self.waiting),
+            docs: &docs[..self.waiting],
+            freqs: &freqs[..self.waiting],
         };
         image.put(output)
     }

@@ -37,7 +37,8 @@ pub struct PostingsSerializer {
     pub postings_at: usize,
 }
 
-// Whether a term was begun or a document taken, with the state after it.
+// Whether a term was begun or a document taken, with the state after it. `Step`, `ClosedTerm` and `ClosedIn` stay three structs, since
+// callers name their public fields.
 #[derive(Clone, Copy, Debug, PartialEq, Eq)]
 pub struct Step {
     pub answer: Result<(), Refusal>,
@@ -51,8 +52,8 @@ pub struct ClosedTerm {
     pub state: PostingsSerializer,
 }
 
-// The numbers of a state, without the documents that wait: what a call on two lent arrays takes and gives. They stand in the state one by
-// one, since its fields are public.
+// The numbers of a state, without the documents that wait: what a call on two lent arrays takes and gives. The state has them one by one,
+// since callers name its public fields.
 #[derive(Clone, Copy, Debug, PartialEq, Eq)]
 pub struct Progress {
     // A number, for the same reason as a state's.
@@ -182,6 +183,7 @@ pub fn close_term(
         postings,
         output,
     );
+    // `close_term_in` ends by the same two cases, but with numbers alone; a fresh state has zeros in its arrays too
     ClosedTerm {
         answer: closed.answer,
         state: match closed.answer {

@@ -220,6 +220,8 @@ impl<'a> WholeList<'a> {
     }
 }
 
+// Ids and frequencies stay two parameters here and at `write_list`: C lends the two slices side by side.
+
 // Every question of a whole list under an announced count: as `write_list` asks them, with 14 for another count behind those of the
 // documents. Nothing is written.
 pub fn ask_list(

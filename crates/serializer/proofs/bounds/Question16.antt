@@ -1,8 +1,8 @@
 -- Question 16, asked in turn; and what a yes says of a state: few documents wait, their ids rise, and the areas reach no further than
 -- their slices.
 -- Assumes nothing.
-use Rattle.std.specs.Prelude.{◌≡◌, ℕ, ◌+◌, ◌<◌, ◌≤◌, Bool, true, false, not, ◌&&◌ as and, ◌||◌ as or, leb, ltb}
-use mathlib.Core.Path.{sym}
+use Rattle.std.specs.Prelude.{◌≡◌, ℕ, ◌+◌, ◌<◌, ◌≤◌, Bool, true, false, not, ◌&&◌ as and, ◌||◌ as or, List, leb, ltb}
+use mathlib.Core.Path.{sym, ◌∙◌}
 use mathlib.Core.Bool.{and_assoc, and-eq-true_iff}
 use native.Mathlib.Omega.{arith}
 use borrow.Author.Tests.{leb-true, le-leb, lt-leb}
@@ -11,6 +11,8 @@ use Rattle.format.specs.Basics.{choose, TERMINATED}
 use Rattle.format.specs.SkipEntry.{has_freq_of}
 use Rattle.format.specs.Values.{rising, countable}
 use Rattle.serializer.specs.declared.PostingsSerializer.{PostingsSerializer}
+use Rattle.serializer.specs.declared.Progress.{Progress}
+use Rattle.serializer.specs.Calls.{state_of}
 use Rattle.serializer.specs.Writer.{bounds_hold, option_of, first_least_of, waiting_docs, waiting_freqs}
 
 -- the least id that the first waiting document may have is 0, or one more than the last block's last id
@@ -65,3 +67,9 @@ module _ (s : PostingsSerializer) (n m : ℕ) (holds : bounds_hold s n m ≡ tru
 
   pub postings_within : s.postings_at ≤ m
   postings_within = leb-true _ _ ((and-eq-true_iff (leb s.skips_at n) _).0 areas-within).1
+
+-- no more wait than an array has places
+pub few_fit : (p : Progress) (docs freqs : List ℕ) (n m : ℕ) {held : Bool} → held ≡ bounds_hold (state_of p docs freqs) n m → held ≡ true
+    → p.waiting ≤ 128
+unfolding state_of
+few_fit p docs freqs n m asked held = omega (arith, few (state_of p docs freqs) n m (sym asked ∙ held))

@@ -1,6 +1,6 @@
 -- `serializer::Progress::in_bounds` meets its contract: each test is a part of the question, and the first no answers it.
 -- Assumes nothing.
-use Rattle.std.proofs.Common.{◌≡◌, true, not, nat_le, sym, ap₂, ◌∙◌}
+use Rattle.std.proofs.Common.{◌≡◌, true, not, nat_le, refl, sym, ap₂, ◌∙◌}
 use Rattle.std.proofs.Common.{◌&&◌ as and}
 use Rattle.std.proofs.Common.{◌||◌ as or}
 use borrow.Author.Tests.{le-leb, lt-leb}
@@ -30,8 +30,8 @@ module _ (c : After-documents_wait) where
   unfolding waiting_docs waiting_freqs option_of state_of
   asked =
       c.documents_wait.ensures
-      ∙ ap₂ and (ap₂ rising (c.first_least-least.ensures _ _) c.front.ensures)
-      (ap₂ (λ option fs. or (not (has_freq_of option)) (countable fs)) c.option.ensures c.front-2.ensures)
+      ∙ ap₂ and (ap₂ rising (c.first_least-least.ensures _ _) refl)
+      (ap₂ (λ option fs. or (not (has_freq_of option)) (countable fs)) c.option.ensures refl)
 
 pub returns-then-not-documents_wait : goal.returns-then-not-documents_wait
 unfolding state_of

@@ -1,12 +1,11 @@
 -- `serializer::Progress::may_take` meets its contract: the questions are asked in the definition's order, and the first no ends it.
 -- Assumes nothing.
-use Rattle.std.proofs.Common.{◌≡◌, ◌≤◌, true, sym, ap₂, ◌∙◌, arith}
+use Rattle.std.proofs.Common.{◌≡◌, true, refl, sym, ap₂, ◌∙◌}
 use Rattle.std.proofs.lemmas.Result.{err_from_is_err_and}
 use Rattle.format.specs.Accepted.{take_doc}
 use Rattle.serializer.specs.declared.PostingsSerializer.{PostingsSerializer}
 use Rattle.serializer.specs.Calls.{state_of}
 use Rattle.serializer.specs.Writer.{bounds_hold, option_of, first_least_of, least_after_of, waiting_docs}
-use Rattle.serializer.proofs.bounds.Question16.{few}
 use Rattle.serializer.proofs.document.TakeCases.{asking_broken, asking-refused, asking-full, asking-ok}
 use Rattle.serializer.proofs.Progress.may_take.Goals as goal
 use Rattle.serializer.proofs.Progress.may_take.Goals.{After-in_bounds, After-ask_doc}
@@ -16,13 +15,6 @@ returns-then-not-in_bounds c =
     let a = c.args in
     let state = state_of a.self a.docs.now a.freqs.now in
     rw (asking_broken state a.doc a.freq a.skips a.postings (sym c.in_bounds.ensures ∙ c.if-not-in_bounds.true))
-
-waits : (c : After-in_bounds) → c.in_bounds.result ≡ true → c.args.self.waiting ≤ 127
-unfolding state_of
-waits c held = few (state_of c.args.self c.args.docs.now c.args.freqs.now) _ _ (sym c.in_bounds.ensures ∙ held)
-
-pub front-requires : goal.front-requires
-front-requires c = omega (arith, waits (goal.at.front-requires c).After-in_bounds c.if-not-in_bounds.false)
 
 module _ (c : After-ask_doc) where
   -- the state that is asked
@@ -35,7 +27,7 @@ module _ (c : After-ask_doc) where
   asked_is : c.ask_doc.result ≡ take_doc (option_of state) (least_after_of (first_least_of state) (waiting_docs state)) c.args.doc c.args.freq
   unfolding option_of waiting_docs state_of
   asked_is =
-      let next = c.least_after-least.ensures ∙ ap₂ least_after_of (c.first_least.ensures _ _) c.front.ensures in
+      let next = c.least_after-least.ensures ∙ ap₂ least_after_of (c.first_least.ensures _ _) refl in
       c.ask_doc.ensures ∙ ap₂ (λ o n. take_doc o n c.args.doc c.args.freq) c.option-option.ensures next
 
 pub returns-in_err-ask_doc : goal.returns-in_err-ask_doc
