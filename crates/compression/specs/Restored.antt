@@ -44,9 +44,9 @@ unfoldable pub in_place : ℕ → List ℕ → List ℕ → List ℕ
 in_place n ns values = map (λ k. k % 2 ^ 32) ns ++ drop n values
 
 -- `sum`: the sums of values are ids of which nothing was left out
-pub record Summed (before n : ℕ) (entry exit : List ℕ) (last : ℕ) : Type 0 where
-  pub answered : last ≡ last_of before (ids_from 0 before (take n entry))
-  pub left : exit ≡ in_place n (ids_from 0 before (take n entry)) entry
+pub record Summed (before : ℕ) (entry exit : List ℕ) (last : ℕ) : Type 0 where
+  pub answered : last ≡ last_of before (ids_from 0 before entry)
+  pub left : exit ≡ map (λ k. k % 2 ^ 32) (ids_from 0 before entry)
 
 -- `ending`: question 6 of ids of which no two are the same, by the last one
 unfoldable pub ending : ℕ → Outcome ℕ

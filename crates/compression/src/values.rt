@@ -44,6 +44,8 @@ pub fn reduce_freqs(freqs: &mut [u32; 128])
     }
 }
 
+// This and `restore_docs` are public, so their signatures stay: n beside the values, and the flag `nonzero`.
+
 // Whether one of the first n values, of all of them where n is larger, is 0. Nothing in the loop branches: it becomes vector code.
 // Tried: the library's `contains`. It is as fast, but stays a call, for which `restore_docs` then saves registers: 65 ns a block, not 60.
 pub fn has_zero(values: &[u32], n: usize) -> bool
@@ -76,14 +78,14 @@ pub fn first_as_difference(values: &mut [u32], least: u32)
     }
 }
 
-// The sums of the first n values on top of before, in their place, and the last sum. A turn waits for one addition of the turn
-// before, and tests nothing.
-fn sum(values: &mut [u32], n: usize, before: u64) -> u64
-    requires { (n ≤ length values.old) × (n ≤ 128) × (before < 2 ^ 32) }
-    ensures { Summed before n values.old values.new result }
+// The sums of values on top of before, in their place, and the last sum. A turn waits for one addition of the turn before, and tests
+// nothing. The low 32 bits are by `%`, since a cast may lose none; a function for them would say no more.
+fn sum(values: &mut [u32], before: u64) -> u64
+    requires { (length values.old ≤ 128) × (before < 2 ^ 32) }
+    ensures { Summed before values.old values.new result }
 {
     let mut last = before;
-    for value in &mut values[..n] {
+    for value in values {
         last += u64::from(*value);
         *value = (last % 4294967296) as u32;
     }
@@ -117,13 +119,13 @@ pub fn restore_docs(
     if m == 0 {
         return Ok(0);
     }
-    let block = &mut values[..];
-    if !nonzero && has_zero(block, m) {
+    if !nonzero && has_zero(values, m) {
         return Err(Refusal::DocsNotRising);
     }
     // the difference of a list's first id is one more than the id
     if least == 0 {
-        block[0] = block[0].saturating_sub(1);
+        values[0] = values[0].saturating_sub(1);
     }
-    ending(sum(block, m, u64::from(least.saturating_sub(1))))
+    let before = u64::from(least.saturating_sub(1));
+    ending(sum(&mut values[..m], before))
 }

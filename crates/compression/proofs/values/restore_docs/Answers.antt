@@ -1,7 +1,7 @@
 -- `compression::values::restore_docs` meets its contract: where a 0 is found nothing is written; else `sum` is handed the differences, a
 -- list's first one less, and makes the sums of the definition.
 -- Assumes nothing.
-use Rattle.std.proofs.Common.{◌≡◌, refl, sym, ap, ◌∙◌, Bool, true, false, not, ◌&&◌ as and, ℕ, zero, suc, List, [], ◌∷◌, ◌-◌, ◌≤◌, ◌<◌, min, length, get_or, take, drop, arith}
+use Rattle.std.proofs.Common.{◌≡◌, refl, sym, ap, ◌∙◌, Bool, true, false, not, ◌&&◌ as and, ℕ, zero, suc, List, [], ◌∷◌, ◌++◌, ◌-◌, ◌≤◌, ◌<◌, min, length, get_or, take, drop, arith, rules}
 use mathlib.Core.Bool.{and-false}
 use mathlib.Core.Logic.{⊎_elim}
 use native.Mathlib.Nat.{eq-zero-or-pos}
@@ -53,19 +53,21 @@ module _ (least m : ℕ) (entry between : List ℕ) (some : 0 < m) (fits : m ≤
   behind : drop m between ≡ drop m entry
   behind = ⊎_elim (λ z. rw (first z) (drop-set-lt m entry 0 (get_or entry 0 0 - 1) some)) (λ pos. rw (others pos)) (eq-zero-or-pos least)
 
-  module _ (exit : List ℕ) (last : ℕ) (summed : Summed (least - 1) m between exit last) (n : ℕ) (clamps : m ≡ min n (length entry)) where
+  module _ (exit : List ℕ) (last : ℕ) (summed : Summed (least - 1) (take m between) exit last) (n : ℕ) (clamps : m ≡ min n (length entry)) where
     last_is : last ≡ last_of 0 (sums_behind least (take m entry))
     last_is = summed.answered ∙ rw sums (sums-last (least - 1) least (take m entry) many)
 
-    left_is : exit ≡ in_place m (sums_behind least (take m entry)) entry
+    left_is : exit ++ drop m between ≡ in_place m (sums_behind least (take m entry)) entry
     unfolding in_place
-    left_is = summed.left ∙ rw (sums, behind)
+    left_is = rw (summed.left, sums, behind)
 
-    pub restored_by : (nonzero : Bool) → found_zero nonzero (take m entry) ≡ false → DocsRestored least n nonzero entry exit (ending last)
+    pub restored_by : (nonzero : Bool) → found_zero nonzero (take m entry) ≡ false → {left : List ℕ} → left ≡ exit ++ drop m between
+        → DocsRestored least n nonzero entry left (ending last)
     unfolding choose in_place
-    restored_by nonzero none =
+    restored_by nonzero none same =
         let c = clamped m n entry clamps in
         let untold = rw c.0 at none in
+        rw same
         record {
           answered = rw untold (ap ending (rw c.0 at last_is));
           left = rw untold (rw (c.0, c.1) at left_is);
@@ -99,21 +101,21 @@ returns c =
     let args = c.args in
     let entry : List ℕ = args.values.now in
     let m : ℕ = c.min-m.result in
-    let block : List ℕ = c.if-least-eq0.block in
+    let block : List ℕ = c.if-least-eq0.values in
     let none : found_zero args.nonzero (take m entry) ≡ false = elim c.else-not-nonzero.branch [
       | else-not-nonzero-via-then-not-nonzero+else-has_zero w ↦
           ap (and (not args.nonzero)) (sym w.has_zero.ensures ∙ w.if-has_zero.false) ∙ and-false (not args.nonzero)
       | else-not-nonzero-via-else-not-nonzero w ↦ rw w.if-not-nonzero.false
     ] in
     let first : args.least ≡ 0 → block ≡ set entry 0 (get_or entry 0 0 - 1) = λ z. elim c.if-least-eq0.branch [
-      | then-least-eq0 w ↦ w.block-is ∙ ap (set entry 0) w.saturating_sub.ensures
+      | then-least-eq0 w ↦ w.values-is ∙ ap (set entry 0) w.saturating_sub.ensures
       | else-least-eq0 w ↦ absurd (w.if-least-eq0.false z)
     ] in
     let others : 0 < args.least → block ≡ entry = λ some. elim c.if-least-eq0.branch [
       | then-least-eq0 w ↦ absurd (omega (arith, w.if-least-eq0.true))
-      | else-least-eq0 w ↦ w.block-is
+      | else-least-eq0 w ↦ w.values-is
     ] in
     rw c.ending.ensures
     (restored_by args.least m entry block (omega arith) (omega arith)
     first others c.sum.new.values c.sum.result
-    (rw (c.from.ensures, c.saturating_sub-2.ensures) at c.sum.ensures) args.n (omega arith) args.nonzero none)
+    (rw (c.from-before.ensures, c.saturating_sub-2.ensures) at c.sum.ensures) args.n (omega arith) args.nonzero none (search rules))

@@ -7,7 +7,6 @@ use Rattle.std.proofs.Math.ListN.{set}
 use Rattle.std.proofs.Math.Seq.{drop-cons, drop-set-lt}
 use Rattle.format.specs.Basics.{last_of}
 use Rattle.format.specs.Values.{ids_from}
-use Rattle.compression.specs.Restored.{in_place}
 use Rattle.compression.proofs.InPlace.{replacing_next, replacing_all}
 use Rattle.compression.proofs.values.sum.Invariants.{sums, last_sum}
 use Rattle.compression.proofs.values.sum.Goals as goal
@@ -35,7 +34,7 @@ loop-value-preserved c =
     }
 
 pub returns : goal.returns
-unfolding in_place ids_from
+unfolding ids_from
 returns c =
     let l = c.loop-value in
     record {
