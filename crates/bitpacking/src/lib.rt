@@ -1,6 +1,7 @@
 // 128 values at one width, in four lanes of 32-bit words: `BitPacker4x` of the Rust crate bitpacking, whose packed form document 01 gives.
-// Blocks, rows and lanes are arrays of a fixed length, since no heap is used. Loops and closures over rows and lanes go by their numbers: each
-// reads or writes at several places that its number gives, and no element stands there to go over.
+// Blocks, rows and lanes are arrays of a fixed length, since no heap is used. Closures over lanes go by the lane's number: each reads of
+// several lists at it. A width stays a number, `w ≤ 32` in the contracts: of a struct each sum and shift would take it out again. So does a
+// place that leaves room, `p + 4 ≤ length`: at each call it is another one.
 
 #![tactic(auto)]
 
@@ -77,7 +78,7 @@ fn value_across(rest: u32, word: u32, bits: u32, w: u32) -> u32
     lowest(rest | (word << bits), w)
 }
 
-// The low 32 bits.
+// The low 32 bits: a cast may lose none.
 fn low(x: u64) -> u32
     ensures { result ≡ x % 2 ^ 32 }
 {
@@ -139,6 +140,7 @@ fn unpack_row(
 }
 
 // All rows of a block whose values have bits. `pack_rows`, its inverse, is of the same form, but what a turn does and passes on is another.
+// By number, since the library doesn't say of `as_chunks_mut` what the slice ends as.
 #[tactic(auto, using(crate::proofs::Filled::fill_none, crate::proofs::Rows::none_left))]
 fn unpack_rows(bytes: &[u8], w: usize, more: u32, values: &mut [u32; 128])
     requires { BlockThere w bytes.now }
@@ -163,7 +165,7 @@ fn has_room(w: usize, n: usize) -> bool
 }
 
 // Reads the 128 values of the block that begins `bytes`, adds `more` to each, modulo 2 ^ 32, and answers whether the block is there.
-// Where it isn't, `values` stays as it was.
+// Where it isn't, `values` stays as it was. This and `pack` answer it, though our callers know: no public function has a `requires`.
 #[tactic(auto, using(crate::proofs::Room::unpacked), unfolding(crate::specs::Packed::room_for, format::specs::Basics::choose))]
 pub fn unpack(bytes: &[u8], width: u8, more: u32, values: &mut [u32; 128]) -> bool
     ensures { Unpacked width more bytes.now values.old values.new result }
@@ -258,7 +260,8 @@ fn pack_row(lanes: Lanes, values: &[u32; 128], row: usize, w: usize, area: &mut 
     words_taken(next)
 }
 
-// All rows.
+// All rows. Over `as_chunks` it would be no plainer: the contracts of a row tell of the lanes by all values and the row's number, and would
+// have to name both beside the row's four values.
 fn pack_rows(values: &[u32; 128], w: usize, area: &mut [u8])
     requires { (w ≤ 32) × (16 * w ≤ length area.old) }
     ensures { area.new ≡ filled (16 * w) (packed_at w values.now) area.old }
