@@ -38,7 +38,8 @@ fn read_vint(src: &[u8], at: usize, most: usize, largest: u64) -> Option<(u64, u
     None
 }
 
-// A tail's number. This and a skip length are public calls of their own: only here stands which limits each kind has.
+// A tail's number, as a u64: a public signature stays. This and a skip length are public calls of their own: only here stands which limits
+// each kind has.
 #[tactic(auto, unfolding(format::specs::Vint::tail_number))]
 pub fn read_vint_u32(src: &[u8], at: usize) -> Option<(u64, usize)>
     ensures { result ≡ tail_number (drop at src.now) }
@@ -54,7 +55,8 @@ pub fn read_vint_u64(src: &[u8], at: usize) -> Option<(u64, usize)>
     read_vint(src, at, 10, u64::MAX)
 }
 
-// How many bytes `value` takes. The value says where the loop ends, and no range or slice.
+// How many bytes `value` takes. Without a loop it is `(value | 1).ilog2() as usize / 7 + 1`, which is no plainer: of what `put_vint` does it
+// shows nothing, and the `| 1` is there for 0 alone.
 pub fn vint_size(value: u64) -> usize
     ensures { result ≡ length (vint value) }
 {
