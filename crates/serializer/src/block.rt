@@ -16,7 +16,7 @@ use format::{BlockInfo, IndexRecordOption, Refusal};
 use skip::{block_size, entry_size, has_freq, write_entry};
 
 // Places in the two areas, for a block's entry and for its values. One type for these and for `Sizes`, which are lengths, would be no
-// plainer: its name and its fields' would say neither.
+// plainer: its name and its fields' would say neither. segment_postings, whose `Split` has such fields, doesn't use this crate.
 #[derive(Clone, Copy, Debug, PartialEq, Eq)]
 pub struct Places {
     pub skips: usize,
