@@ -13,6 +13,7 @@ use skip::known_mode;
 
 impl Progress {
     // The numbers of a state that holds no document.
+    #[tactic(auto, unfolding(crate::specs::Writer::fresh, crate::specs::Calls::progress_of_of))]
     pub(crate) fn fresh(mode: u8, recording: bool) -> Progress
         ensures { result ≡ progress_of_of (fresh mode recording) }
     {
@@ -52,6 +53,7 @@ impl Progress {
 
 // Begins a term: its mode, 0 or 1, and whether its frequencies are recorded. A caller may hand in any number as the mode: question 1 refuses
 // the others, which an enum would leave to callers. What the arrays hold doesn't matter.
+#[tactic(auto, unfolding(crate::specs::Calls::progressed, format::specs::Accepted::begin, format::specs::Basics::ask))]
 pub fn new_term_in(mode: u8, recording: bool) -> Result<Progress, Refusal>
     ensures { result ≡ progressed (λ _. fresh mode recording) (begin mode recording) }
 {

@@ -31,6 +31,7 @@ pub(crate) fn last_of(docs: &[u32]) -> u32
 }
 
 // The width of a block's frequency values, 0 where frequencies aren't kept.
+#[tactic(auto, unfolding(format::specs::Written::only_if, format::specs::Bitpacking::width, format::specs::Bitpacking::bits_f, format::specs::Bitpacking::largest, format::specs::Basics::choose))]
 fn freq_width(option: IndexRecordOption, values: &[u32; 128]) -> u8
     ensures { result ≡ packing.width (only_if (has_freq_of option) values.now) }
 {

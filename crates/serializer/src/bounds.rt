@@ -72,6 +72,7 @@ impl Progress {
     }
 
     // The least id that the first waiting document may have; 2 ^ 32 where the last block's last id is the largest number of 32 bits.
+    #[tactic(auto, unfolding(crate::specs::Writer::first_least_of, crate::specs::Calls::state_of, format::specs::Basics::choose))]
     pub(crate) fn first_least(self) -> u64
         ensures { (docs freqs : List ℕ) → result ≡ first_least_of (state_of self docs freqs) }
     {

@@ -80,6 +80,7 @@ impl From<PostingsSerializer> for Progress {
 
     ghost from_gives = { λ state p. p ≡ progress_of_of state };
 
+    #[tactic(auto, unfolding(crate::specs::Calls::progress_of_of))]
     fn from(state: PostingsSerializer) -> Progress {
         Progress {
             mode: state.mode,
@@ -95,6 +96,7 @@ impl From<PostingsSerializer> for Progress {
 
 impl Progress {
     // Puts a state together again, with the two arrays that `from` leaves out.
+    #[tactic(auto, unfolding(crate::specs::Calls::state_of))]
     fn with_arrays(self, docs: [u32; 128], freqs: [u32; 128]) -> PostingsSerializer
         ensures { result ≡ state_of self docs freqs }
     {
@@ -114,6 +116,7 @@ impl Progress {
 
 impl PostingsSerializer {
     // A state that holds no document.
+    #[tactic(auto, unfolding(crate::specs::Calls::state_of, crate::specs::Calls::progress_of_of, crate::specs::Writer::fresh))]
     fn fresh(mode: u8, recording: bool) -> PostingsSerializer
         ensures { result ≡ specs.fresh mode recording }
     {

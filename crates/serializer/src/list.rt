@@ -78,6 +78,7 @@ fn ask_docs<'a>(
 }
 
 // The width of a block's document values.
+#[tactic(auto, unfolding(format::specs::Written::doc_values))]
 fn docs_width(ids: &[u32; 128], least: u32) -> u8
     ensures { result ≡ width (doc_values least ids.now) }
 {
@@ -87,6 +88,7 @@ fn docs_width(ids: &[u32; 128], least: u32) -> u8
 }
 
 // The width of its frequency values, 0 where frequencies aren't kept: then none is reduced, as `freq_width` of reduced values would want.
+#[tactic(auto, unfolding(format::specs::Written::freq_values, format::specs::Written::only_if, format::specs::Bitpacking::width, format::specs::Bitpacking::bits_f, format::specs::Bitpacking::largest, format::specs::Basics::choose))]
 fn freqs_width(option: IndexRecordOption, freqs: &[u32; 128]) -> u8
     ensures { result ≡ width (freq_values option freqs.now) }
 {

@@ -36,9 +36,6 @@ returns-in_err-may_take c =
     let no = sym c.may_take.ensures ∙ c.in_err-may_take.was in
     rw (refusal.1, refusal.2) (settled_refused _ _ _ _ (taking-refused (state asked) a.doc a.freq a.skips.now a.postings.now no))
 
-pub fill_block-requires : goal.fill_block-requires
-fill_block-requires c = (may (goal.at.fill_block-requires c).After-may_take c.in_ok-may_take.was, c.if-waiting-ge127.true)
-
 pub one_more-requires : goal.one_more-requires
 one_more-requires c = (c.if-waiting-ge127.false, not_full (goal.at.one_more-requires c).After-may_take c.in_ok-may_take.was)
 

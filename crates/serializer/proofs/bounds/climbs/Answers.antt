@@ -1,12 +1,9 @@
 -- `serializer::bounds::climbs` meets its contract. The invariant: the ids climb if those before place i did and those from the one before
 -- it on do.
 -- Assumes nothing.
-use Rattle.std.proofs.Common.{refl, arith}
+use Rattle.std.proofs.Common.{arith}
 use Rattle.serializer.proofs.bounds.Waiting.{climbing-on, climbing-end}
 use Rattle.serializer.proofs.bounds.climbs.Goals as goal
-
-pub loop-i-init : goal.loop-i-init
-loop-i-init c = record { some = omega arith; within = omega arith; so_far = refl }
 
 pub loop-i-preserved : goal.loop-i-preserved
 loop-i-preserved c =
