@@ -165,18 +165,14 @@ impl<'a> WholeList<'a> {
         }
     }
 
-    // Question 15, of the sizes. Each no is a return of its own, since the proof goes by which area has no room.
+    // Question 15, of the sizes.
     fn fits(&self, sizes: Sizes, skips: &[u8], postings: &[u8], len: usize) -> bool
         requires { ListSized self.now.option self.now.ids.now self.now.freqs.now sizes }
         ensures { result ≡ list_fits_of self.now.option self.now.ids.now self.now.freqs.now skips.now postings.now len }
     {
-        if skips.len() < sizes.entries {
-            return false;
-        }
-        if postings.len() < sizes.blocks {
-            return false;
-        }
-        self.image(sizes, skips, postings).fits(len)
+        sizes.entries <= skips.len()
+            && sizes.blocks <= postings.len()
+            && self.image(sizes, skips, postings).fits(len)
     }
 
     // Question 15.
