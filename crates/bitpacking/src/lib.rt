@@ -78,7 +78,7 @@ fn value_across(rest: u32, word: u32, bits: u32, w: u32) -> u32
     lowest(rest | (word << bits), w)
 }
 
-// The low 32 bits: a cast may lose none.
+// The low 32 bits: a cast may lose none. `compression` and `postings` write it out: a shared function would say no more.
 fn low(x: u64) -> u32
     ensures { result ≡ x % 2 ^ 32 }
 {

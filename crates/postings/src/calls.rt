@@ -87,7 +87,7 @@ fn numbers_of(answer: Result<Answer, Refusal>) -> [u64; ANSWER_NUMBERS]
     numbers
 }
 
-// Writes an answer.
+// Writes an answer, at a place that `run_from` computes.
 fn put_answer(answer: Result<Answer, Refusal>, answers: &mut [u64], at: usize)
     requires { at + answer_length ≤ length answers.old }
     ensures { answers.new ≡ put_at at (numbers answer) answers.old }

@@ -39,7 +39,8 @@ impl Held {
             && self.entries <= blocks
     }
 
-    // Whether the position is the end, for a place in a block.
+    // Whether the position is the end, for a place in a block. That it is one stays a `requires`, here, in `shown_at` and in `with_answer`: their
+    // callers have just asked it, of numbers that they go on with.
     pub(crate) fn at_end(self, term: Term) -> bool
         requires { self.place < 128 }
         ensures { result ≡ (position self == term.count) }

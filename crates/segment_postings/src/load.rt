@@ -103,7 +103,8 @@ fn none_left(image: &[u8], at: usize) -> bool
     image.len() <= at
 }
 
-// Whether an image keeps frequencies; those of a tail of n documents would begin at place `at`.
+// Whether an image keeps frequencies; those of a tail of n documents would begin at place `at`. That the tail is `alone`, with no full block, is
+// all that it asks of the others, so a flag.
 #[tactic(auto, unfolding(format::specs::Reading::keeps_freqs_of))]
 fn keeps_freqs(option: IndexRecordOption, alone: bool, n: usize, image: &[u8], at: usize) -> bool
     ensures { result ≡ keeps_freqs_of option alone n (drop at image.now) }
@@ -182,6 +183,7 @@ impl FoundBlock<'_> {
         let image = self.laid.image;
         let found = self.found;
         let counted = self.counted();
+        // Written out: `docs_in` would ask once more whether this is the tail.
         let n = self.laid.term.count as usize % COMPRESSION_BLOCK_SIZE;
         *docs = [TERMINATED; 128];
         *freqs = [1; 128];

@@ -86,7 +86,8 @@ impl LaidImage<'_> {
     }
 }
 
-// Whether an image is sound; else the first question that a walk over the whole of it answers no.
+// Whether an image is sound; else the first question that a walk over the whole of it answers no. Frequencies are requested, as `total` does
+// by the same literal, which a function's name would say no plainer.
 pub fn validate(image: &[u8], mode: u8, count: u32) -> Result<(), Refusal>
     ensures { result ≡ soundness mode count image.now }
 {

@@ -53,7 +53,7 @@ pub fn record_option(mode: u8, recording: bool) -> IndexRecordOption
     }
 }
 
-// The 32-bit number at place `at`.
+// The 32-bit number at place `at`. A shared function for it would want a `requires` or a test (crates/common/src/lib.rt).
 fn read_u32(bytes: &[u8], at: usize) -> u32
     requires { at + 4 ≤ length bytes.now }
     ensures { result ≡ four_bytes bytes.now at }
