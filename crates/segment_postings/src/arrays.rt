@@ -39,8 +39,8 @@ impl Held {
             && self.entries <= blocks
     }
 
-    // Whether the position is the end, for a place in a block. That it is one stays a `requires`, here, in `shown_at` and in `with_answer`: their
-    // callers have just asked it, of numbers that they go on with.
+    // Whether the position is the end, for a place in a block. That it is one stays a `requires`, here, in `shown_at` and in `with_answer`: callers have
+    // asked it, or have it from the call that came there.
     pub(crate) fn at_end(self, term: Term) -> bool
         requires { self.place < 128 }
         ensures { result ≡ (position self == term.count) }
@@ -204,8 +204,8 @@ pub fn open_in(
     Ok(held)
 }
 
-// The numbers, the image and the term go on as parameters, here and in `seek_behind`: each public call asks question 16 of them, or whether the
-// place is one, in a line and answers numbers, so a struct of the three would be made and taken apart by each.
+// The numbers, the image and the term go on as parameters, here, in `leave_whole`, `seek_behind` and `go`: each public call on lent arrays asks
+// question 16 of them in a line and answers numbers, so a struct of the three would be made and taken apart by each.
 //
 // Goes to another block, from a full one: questions 1 to 4 are asked again of the image that is passed, then 5 to 9. A lent
 // cursor that didn't come from this image may place its next block before the posting bytes.

@@ -117,7 +117,8 @@ pub(crate) enum Call {
 }
 
 // A step or a seek on a cursor's arrays, with its answer: what both calls by value do. With two callers the compiler keeps it apart and
-// inlines `seek` and `advance`, which was measured faster. Its parameters are those of `leave`, for the reason given there.
+// inlines `seek` and `advance`, which was measured faster. Why the numbers, the image and the term stay three
+// parameters, `leave` says.
 pub(crate) fn go(
     held: Held,
     image: &[u8],

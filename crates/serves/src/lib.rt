@@ -1,9 +1,10 @@
 // Many targets looked up in one reading, with a stand-in for the cursor: the first use of `thin`'s loops over a lent slice. The
 // gate checks it, so that the theorems are shown to apply, until a call over many targets takes its place. Nothing links it.
 //
-// docs/LENT_CALLS.md names `thin`'s theorems, and they are about functions of this form, as records that C shares want it: a loop counts a
-// place, and a refusal is a number, 0 where there is none, with what a refused call leaves beside it. So `Asked`, `Opened`, `Turn`, `Served`, `Started`,
-// `Marked` and what makes them hold no `Result`, and the four loops no iterator; `Term` is written again, since `format` isn't linked here.
+// docs/LENT_CALLS.md names `thin`'s theorems, and they are about functions of this form: a loop counts a place, and a refusal is a number, 0
+// where there is none, with what a refused call leaves beside it. So `Opened`, `Turn`, `Started`, `Marked` and what makes them hold no
+// `Result`, and the four loops no iterator. `Asked` and `Served` hand the same number on; `Term` is written again, since `format` isn't linked
+// here.
 
 #![tactic(auto)]
 
