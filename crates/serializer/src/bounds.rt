@@ -1,6 +1,6 @@
 // Question 16 of document 01: whether the numbers of a lent state are in bounds. It is asked of every waiting document at each call, so
 // its loops have no branch inside: they become vector code. Each no is a return of its own: the proof goes by which
-// test said it, and of one chain of `&&` it didn't close.
+// test said it, and doesn't fit one chain of `&&`.
 
 ghost use Rattle.std.specs.Prelude.{◌≡◌, ℕ, ◌<◌, ◌≤◌, not, ◌&&◌ as and, ◌||◌ as or, List, length};
 ghost use Rattle.format.specs.Accepted.{kept_in};
