@@ -26,6 +26,9 @@ const REFUSAL_PLACE: usize = 0;
 const DOC_PLACE: usize = 1;
 const FREQ_PLACE: usize = 2;
 const UNPACKED_PLACE: usize = 3;
+/// The document answered behind the last one, and the number under which a target above it is refused.
+const TERMINATED: u32 = 2147483647;
+const TARGET_TOO_LARGE: u64 = 10;
 
 /// The answer itself; the program ends where it is a refusal.
 fn taken(call: &str, answer: u64) -> u64 {
@@ -65,17 +68,21 @@ fn main() {
         let occurrences = taken("total", vilthorwy_total(1, 3, image.as_ptr(), image.len(), 300));
         println!("documents below 300: {below}, occurrences: {occurrences}");
 
-        // Seek 8, then a step: by value, and on a lent cursor.
-        let (by_value, lent) = ([(1u64 << 32) + 8, 0], [(3u64 << 32) + 8, 2 << 32]);
-        let [mut answers, mut lent_answers] = [[0u64; 3 * ANSWER_NUMBERS]; 2];
+        // Seek 8, a step to the end, and there a seek to a mistyped target: by value, and on a lent cursor.
+        let by_value = [(1u64 << 32) + 8, 0, (1 << 32) + 2147483648];
+        let lent = by_value.map(|call| (2 << 32) + call);
+        let [mut answers, mut lent_answers] = [[0u64; 4 * ANSWER_NUMBERS]; 2];
         for (calls, answers) in [(by_value, &mut answers), (lent, &mut lent_answers)] {
-            let n = vilthorwy_run_calls(1, 1, 3, image.as_ptr(), image.len(), calls.as_ptr(), 2, answers.as_mut_ptr(), answers.len());
-            assert_eq!(n, 3, "opening and both calls are answered");
+            let n = vilthorwy_run_calls(1, 1, 3, image.as_ptr(), image.len(), calls.as_ptr(), 3, answers.as_mut_ptr(), answers.len());
+            assert_eq!(n, 4, "opening and the three calls are answered");
         }
         assert_eq!(answers, lent_answers);
-        for answer in answers.chunks(ANSWER_NUMBERS) {
+        let (others, last) = answers.split_at(3 * ANSWER_NUMBERS);
+        for answer in others.chunks(ANSWER_NUMBERS) {
             assert_eq!(answer[REFUSAL_PLACE], 0, "the call isn't refused");
             println!("at {}, frequency {}, {} unpacked", answer[DOC_PLACE], answer[FREQ_PLACE], answer[UNPACKED_PLACE]);
         }
+        assert_eq!(last[REFUSAL_PLACE], TARGET_TOO_LARGE, "the mistyped target is refused");
+        println!("refused: a target above {TERMINATED}");
     }
 }

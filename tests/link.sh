@@ -15,6 +15,7 @@ documents below 300: 2, occurrences: 3
 at 3, frequency 1, 1 unpacked
 at 300, frequency 130, 1 unpacked
 at 2147483647, frequency 0, 1 unpacked
+refused: a target above 2147483647
 END
 for shown in "cat examples/table.txt" examples/run; do
     $shown | sed 's/^/    /' > "$folder/shown"

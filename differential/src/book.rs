@@ -1,4 +1,4 @@
-//! Document 01's book: what each call on a cursor is to answer.
+//! Document 01's book, with document 02's Ask 10: what each call on a cursor is to answer.
 
 use std::collections::BTreeSet;
 
@@ -26,11 +26,8 @@ impl Book<'_> {
         let end = self.documents.len();
         match call {
             Call::Step => self.position = end.min(self.position + 1),
-            Call::Seek(target) if target > END => {
-                if self.position < end {
-                    return refused(10);
-                }
-            }
+            // At the end too.
+            Call::Seek(target) if target > END => return refused(10),
             Call::Seek(target) => {
                 while self.position < end && self.documents[self.position].0 < target {
                     self.position += 1;

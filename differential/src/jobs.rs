@@ -149,6 +149,7 @@ impl Run {
     fn worked(&mut self) -> Outcome {
         self_check::worked_lists()?;
         self_check::worked_refusals()?;
+        self_check::worked_calls()?;
         #[cfg(feature = "linked")]
         writing::check_beginning()?;
         Ok(())
@@ -183,7 +184,7 @@ impl Run {
             let ids = (0..count).map(|i| 2 * i).collect();
             let list = List { mode: form.0, record: form.1, ids, freqs };
             let mut calls: Vec<u64> = [0, 253, 254, 255, 256, 510, 511, 512].map(seek).to_vec();
-            calls.push(0);
+            calls.extend([0, seek(TERMINATED), seek(TERMINATED + 1)]);
             self.all_calls(&list, &calls, if self.long { 5 } else { 4 })?;
         }
         Ok(())

@@ -2,7 +2,8 @@
 //! with 0, or prints a smallest input that shows a difference and ends with 1.
 //!
 //! Without a feature the Rust itself is tried, and the plain reading of `reference`: both must do
-//! what document 01 says of worked lists, and agree with each other and with 01's book.
+//! what document 01 says of worked lists, and agree with each other and with the book (`book`), on
+//! the targets that the Rust takes.
 
 use std::env;
 use std::fmt::{self, Debug};
@@ -46,10 +47,44 @@ struct Tally {
     targets: u64,
     call_lists: u64,
     calls: u64,
+    too_large: TooLarge,
     damaged: u64,
     damaged_calls: u64,
     /// Damaged images by the number that admission gives.
     refused: [u64; 10],
+}
+
+/// Seeks to a target above the limit, in lists of calls on sound images: how many before the end, and
+/// how many at it, in each manner.
+#[derive(Clone, Copy, Default)]
+struct TooLarge([[u64; 2]; 3]);
+
+impl TooLarge {
+    const MANNERS: [&'static str; 3] = ["by value", "lent", "on arrays"];
+
+    fn add(&mut self, other: &TooLarge) {
+        for (number, other) in self.0.as_flattened_mut().iter_mut().zip(other.0.as_flattened()) {
+            *number += other;
+        }
+    }
+
+    /// The manners that are linked had such seeks, before the end and at it.
+    fn all_tried(&self) -> Outcome {
+        let linked = if cfg!(feature = "linked-bench") { 3 } else { 2 };
+        match self.0.iter().take(linked).position(|counts| counts.contains(&0)) {
+            None => Ok(()),
+            Some(manner) => Err(format!("no seek to too large a target {}", Self::MANNERS[manner])),
+        }
+    }
+}
+
+impl fmt::Display for TooLarge {
+    fn fmt(&self, f: &mut fmt::Formatter) -> fmt::Result {
+        let counts = Self::MANNERS.iter().zip(self.0);
+        let counts: Vec<String> =
+            counts.map(|(manner, [before, at])| format!("{before} and {at} {manner}")).collect();
+        write!(f, "  seeks to too large a target, before the end and at it: {}", counts.join(", "))
+    }
 }
 
 impl Tally {
@@ -59,6 +94,7 @@ impl Tally {
         self.targets += other.targets;
         self.call_lists += other.call_lists;
         self.calls += other.calls;
+        self.too_large.add(&other.too_large);
         self.damaged += other.damaged;
         self.damaged_calls += other.damaged_calls;
         for (number, refused) in self.refused.iter_mut().zip(other.refused) {
@@ -72,6 +108,7 @@ impl fmt::Display for Tally {
         writeln!(f, "  {} lists written", self.written)?;
         writeln!(f, "  {} sound images read, {} targets ranked", self.images, self.targets)?;
         writeln!(f, "  {} lists of {} calls", self.call_lists, self.calls)?;
+        writeln!(f, "{}", self.too_large)?;
         write!(f, "  {} damaged images with {} calls;", self.damaged, self.damaged_calls)?;
         for (number, refused) in self.refused.iter().enumerate() {
             write!(f, " {refused} are {number}{}", if number < 9 { "," } else { "" })?;
@@ -92,7 +129,7 @@ fn main() -> ExitCode {
     println!("seed {seed}{}", if long { ", long" } else { "" });
     let (tally, outcome) = jobs::run(seed, long);
     println!("cases:\n{tally}");
-    match outcome {
+    match outcome.and_then(|()| tally.too_large.all_tried()) {
         Ok(()) => {
             println!("no difference");
             ExitCode::SUCCESS

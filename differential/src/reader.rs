@@ -3,6 +3,8 @@
 
 use std::fmt;
 
+use crate::TERMINATED;
+
 /// One term's bytes with its recorded mode and count. Nothing is promised of them.
 #[derive(Clone, PartialEq)]
 pub struct Image {
@@ -67,5 +69,10 @@ impl Call {
             1 | 3 => Some(Call::Seek(number as u32)),
             _ => None,
         }
+    }
+
+    /// Whether it seeks a target above the limit.
+    pub fn too_large(self) -> bool {
+        matches!(self, Call::Seek(target) if target > TERMINATED)
     }
 }

@@ -1,5 +1,6 @@
-//! Document 01 read once more: what stands in an image, and which question it fails first. Plain
-//! code of its own, in the order of the questions; it knows neither the Rust nor the library.
+//! Document 01 read once more, with what document 02 asks since: what stands in an image, and which
+//! question it fails first. Plain code of its own, in the order of the questions; it knows neither
+//! the Rust nor the library.
 
 use crate::reader::{refused, Answer, Call, Caller, Image, Reader, ANSWER_NUMBERS};
 
@@ -265,10 +266,10 @@ impl<'a> Cursor<'a> {
     }
 
     fn seek(&mut self, target: u32) -> Asked<()> {
+        ask(target <= END, 10)?;
         if self.at_the_end() {
             return Ok(());
         }
-        ask(target <= END, 10)?;
         if self.block < self.laid.full && self.held.docs[127] < target {
             let mut block = self.block + 1;
             let mut entries = 0;

@@ -1,10 +1,11 @@
-//! The Rust beside document 01: does the code over the shims do what 01 says of it?
+//! What documents 01 and 02 say in numbers, of the Rust over the shims, of the plain reading and, where
+//! it is linked, of the library.
 
 use differential::lists::List;
 use differential::oracle::{self, Opener, TERMINATED};
-use differential::reader::Image;
+use differential::reader::{refused, Image};
 
-use crate::{equal, Bytes, Outcome, READERS};
+use crate::{equal, Bytes, Outcome, CALLERS, READERS};
 
 /// 01's worked lists: mode, ids, frequencies, and the bytes of the recorded list.
 pub fn worked_lists() -> Outcome {
@@ -35,6 +36,38 @@ pub fn worked_lists() -> Outcome {
     let image = Image { mode: 1, count: 3, bytes: vec![0x83, 0x84, 0x25, 0x82] };
     let found = Opener::new(&image).read(1);
     equal(|| "worked list without frequencies".into(), found, vec![(3, 1), (7, 1), (300, 1)])
+}
+
+/// Document 02's Ask 10 in numbers: a target that is too large, before the end and at it, by value and
+/// on a lent cursor, on the ids 3, 7, 300 and on the empty list.
+pub fn worked_calls() -> Outcome {
+    let (seek, lent) = (1 << 32, 2 << 32);
+    let too_large = refused(10);
+    let end = [0, 2147483647, 0, 1, 0];
+    let bytes = vec![0x83, 0x84, 0x25, 0x82, 0x81, 0x82, 0x02, 0x81];
+    let lists = [(1, 3, bytes, [0, 3, 1, 1, 0]), (1, 0, vec![], end), (0, 0, vec![], end)];
+    for (mode, count, bytes, first) in lists {
+        let image = Image { mode, count, bytes };
+        let calls = [
+            (seek + 2147483648, too_large),
+            (lent + seek + 2147483648, too_large),
+            (seek + 301, end),
+            (seek + 2147483648, too_large),
+            (lent + seek + 4294967295, too_large),
+            (lent + seek + 2147483647, end),
+            (0, end),
+        ];
+        let numbers = calls.map(|(call, _)| call);
+        let wanted: Vec<u64> =
+            [first].into_iter().chain(calls.map(|(_, answer)| answer)).flatten().collect();
+        for caller in CALLERS {
+            let mut found = vec![7; wanted.len()];
+            let many = caller.run_calls(&image, 1, &numbers, &mut found);
+            let what = || format!("{}, worked calls\n  of {image}", caller.name());
+            equal(what, (many, &found), (1 + calls.len() as u64, &wanted))?;
+        }
+    }
+    Ok(())
 }
 
 /// An accepted list: what a cleared serializer writes is what a new one writes.

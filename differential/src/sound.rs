@@ -2,11 +2,13 @@
 
 use differential::book::book;
 use differential::images::{odd_image, Style};
+#[cfg(feature = "linked-bench")]
+use differential::linked_bench;
 use differential::lists::{List, Rng};
 use differential::oracle::{self, Opener, TERMINATED};
 use differential::reader::{Call, Caller, Image, Reader, ANSWER_NUMBERS};
 
-use crate::{equal, Bytes, Outcome, Tally, CALLERS, READERS};
+use crate::{equal, Bytes, Outcome, Tally, TooLarge, CALLERS, READERS};
 
 /// The written image, one in the non-strict form and one of any kind: whole readings, ranks, totals
 /// and lists of calls.
@@ -178,7 +180,8 @@ pub fn some_calls(rng: &mut Rng, ids: &[u32]) -> Vec<u64> {
 }
 
 /// A list of calls: each answer is the book's, and document, frequency and number of blocks held so
-/// far are the Rust's. A difference is told of as few calls as show it.
+/// far are the Rust's. With `linked-bench` its seeks are made on two arrays as well. A difference is
+/// told of as few calls as show it.
 pub fn check_calls(
     image: &Image,
     opener: &Opener,
@@ -190,7 +193,13 @@ pub fn check_calls(
     tally.call_lists += 1;
     tally.calls += calls.len() as u64;
     let check = |calls: &[u64]| compare_calls(image, opener, requested, documents, calls);
-    let Err(mut difference) = check(calls) else { return Ok(()) };
+    let mut difference = match check(calls) {
+        Ok(too_large) => {
+            tally.too_large.add(&too_large);
+            return Ok(());
+        }
+        Err(difference) => difference,
+    };
     let mut calls = calls.to_vec();
     let mut place = calls.len();
     while place > 0 {
@@ -215,7 +224,7 @@ fn compare_calls(
     requested: u8,
     documents: &[(u32, u32)],
     numbers: &[u64],
-) -> Outcome {
+) -> Result<TooLarge, String> {
     let calls: Vec<Call> = numbers.iter().map(|call| Call::from_number(*call).unwrap()).collect();
     let wanted = book(documents, &calls);
     rust_calls(opener, requested, &calls, &wanted)?;
@@ -231,7 +240,64 @@ fn compare_calls(
         let behind = behind.map(|number| number + length as u64);
         equal(|| format!("{name}, behind"), &found[length..], &behind.collect::<Vec<u64>>()[..])?;
     }
-    Ok(())
+    let [by_value, lent] = too_large(numbers, &wanted);
+    #[cfg(feature = "linked-bench")]
+    let on_arrays = on_arrays(image, requested, documents, &calls)?;
+    #[cfg(not(feature = "linked-bench"))]
+    let on_arrays = [0; 2];
+    Ok(TooLarge([by_value, lent, on_arrays]))
+}
+
+fn ended(answer: &[u64; ANSWER_NUMBERS]) -> bool {
+    answer[1] == u64::from(TERMINATED)
+}
+
+/// How many calls by value, and how many on a lent cursor, seek a target above the limit: before the
+/// end, and at it. They move nothing, so the last answer of another call tells where they are.
+fn too_large(numbers: &[u64], answers: &[[u64; ANSWER_NUMBERS]]) -> [[u64; 2]; 2] {
+    let mut counts = [[0; 2]; 2];
+    let mut at_the_end = ended(&answers[0]);
+    for (number, answer) in numbers.iter().zip(&answers[1..]) {
+        if Call::from_number(*number).is_some_and(Call::too_large) {
+            counts[(number >> 33) as usize][usize::from(at_the_end)] += 1;
+        } else {
+            at_the_end = ended(answer);
+        }
+    }
+    counts
+}
+
+/// The seeks alone, on two lent arrays in the library's own loop, which ends at the first refusal. How
+/// many were refused, before the end and at it.
+#[cfg(feature = "linked-bench")]
+fn on_arrays(
+    image: &Image,
+    requested: u8,
+    documents: &[(u32, u32)],
+    calls: &[Call],
+) -> Result<[u64; 2], String> {
+    let target = |call: &Call| match call {
+        Call::Seek(target) => Some(*target),
+        Call::Step => None,
+    };
+    let targets: Vec<u32> = calls.iter().filter_map(target).collect();
+    let seeks: Vec<Call> = targets.iter().copied().map(Call::Seek).collect();
+    let answers = book(documents, &seeks);
+    let served = answers[1..].iter().take_while(|answer| answer[0] == 0).count();
+    let mut wanted = unwritten(0..targets.len());
+    // Of opening nothing is stored.
+    for (place, answer) in wanted.iter_mut().zip(&answers[1..=served]) {
+        *place = (answer[1] as u32, answer[2] as u32);
+    }
+    let (mut docs, mut freqs): (Vec<u32>, Vec<u32>) =
+        unwritten(0..targets.len()).into_iter().unzip();
+    let found = linked_bench::seeks(image, requested, &targets, &mut docs, &mut freqs);
+    let what = |what| format!("on arrays, seeks {targets:?}, {what}");
+    equal(|| what("how many are served"), found, served as u64)?;
+    equal(|| what("what is stored"), docs.into_iter().zip(freqs).collect(), wanted)?;
+    let mut refused = [0; 2];
+    refused[usize::from(ended(&answers[served]))] = u64::from(served < targets.len());
+    Ok(refused)
 }
 
 /// Nothing is answered, nor anything written, where answers have no room or a kind is unknown.
@@ -259,10 +325,9 @@ fn rust_calls(
     calls: &[Call],
     wanted: &[[u64; ANSWER_NUMBERS]],
 ) -> Outcome {
-    let above = |call: &Call| matches!(call, Call::Seek(target) if *target > TERMINATED);
-    let taken: Vec<Call> = calls.iter().copied().filter(|call| !above(call)).collect();
+    let taken: Vec<Call> = calls.iter().copied().filter(|call| !call.too_large()).collect();
     let shown = opener.calls(requested, &taken);
-    let not_above = |at: usize| at == 0 || !above(&calls[at - 1]);
+    let not_above = |at: usize| at == 0 || !calls[at - 1].too_large();
     let wanted = wanted.iter().enumerate().filter(|(at, _)| not_above(*at));
     let mut held = std::collections::BTreeSet::new();
     for ((at, wanted), shown) in wanted.zip(shown) {

@@ -8,7 +8,9 @@ mod reading;
 mod telling;
 mod writing;
 
-use crate::reading::{ask, call_all, list_all, walk, walk_arrays, walk_lent};
+use crate::reading::{
+    ask, call_all, list_all, mistype, mistype_arrays, walk, walk_arrays, walk_lent,
+};
 use crate::telling::tell;
 use crate::writing::{write_each, write_on_arrays, write_whole};
 use postings::Term;
@@ -30,6 +32,8 @@ fn read_each(rt: &impl Print, output: &[u8], n: usize) -> io::Result<()> {
     walk(rt, image, term)?;
     walk_lent(rt, image, term)?;
     walk_arrays(rt, image, term)?;
+    mistype(rt, image, term)?;
+    mistype_arrays(rt, image, term)?;
     ask(rt, image)?;
     list_all(rt, image, term)?;
     call_all(rt, image, term)

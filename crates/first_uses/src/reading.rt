@@ -2,11 +2,13 @@
 
 use crate::telling::{tell, tell_answer, tell_refusal, tell_value};
 use postings::{
-    ANSWER_NUMBERS, Answer, Refusal, TERMINATED, Term, advance, advance_by_lending, advance_in,
-    answer_at, doc, open, open_in, posting_bytes, rank, read, run_calls, seek, seek_by_lending,
-    seek_in, skip_bytes, term_freq, total, validate,
+    ANSWER_NUMBERS, Answer, Held, Refusal, SegmentPostings, TERMINATED, Term, advance,
+    advance_by_lending, advance_in, answer_at, doc, open, open_in, posting_bytes, rank, read,
+    run_calls, seek, seek_by_lending, seek_in, skip_bytes, term_freq, total, validate,
 };
 use std::io;
+
+const MISTYPED: u32 = 2147483648;
 
 // A cursor by value: the first document, the next, the first at or above 300, and what stands there.
 pub(crate) fn walk(rt: &impl Print, image: &[u8], term: Term) -> io::Result<()> {
@@ -52,6 +54,59 @@ pub(crate) fn walk_arrays(rt: &impl Print, image: &[u8], term: Term) -> io::Resu
         }
         Err(refusal) => tell_refusal(rt, refusal),
     }
+}
+
+// A target above the largest that is taken, by value and on a lent cursor, and the document where that is left.
+fn mistype_from(
+    rt: &impl Print,
+    cursor: SegmentPostings,
+    image: &[u8],
+    term: Term,
+) -> io::Result<()> {
+    let moved = seek(cursor, image, term, MISTYPED);
+    tell_answer(rt, moved.answer)?;
+    let moved = seek_by_lending(moved.cursor, image, term, MISTYPED);
+    tell_answer(rt, moved.answer)?;
+    let found = doc(moved.cursor, image, term);
+    tell_value(rt, "doc", found)
+}
+
+// Such a target is refused, at the first document and at the end, and the cursor stays where it was.
+pub(crate) fn mistype(rt: &impl Print, image: &[u8], term: Term) -> io::Result<()> {
+    let opened = open(image, term);
+    mistype_from(rt, opened.cursor, image, term)?;
+    let ended = seek(opened.cursor, image, term, TERMINATED);
+    mistype_from(rt, ended.cursor, image, term)
+}
+
+// The same on two arrays, and what stands where they are left.
+fn mistype_on(
+    rt: &impl Print,
+    held: Held,
+    image: &[u8],
+    term: Term,
+    docs: &mut [u32; 128],
+    freqs: &mut [u32; 128],
+) -> io::Result<()> {
+    let reached = seek_in(held, image, term, MISTYPED, docs, freqs);
+    tell_value(rt, "reached", reached.map(|_| 0))?;
+    tell_answer(rt, answer_at(held, term, docs, freqs))
+}
+
+// .. at the first document and at the end, with the caller's own two arrays.
+pub(crate) fn mistype_arrays(rt: &impl Print, image: &[u8], term: Term) -> io::Result<()> {
+    let mut docs = [TERMINATED; 128];
+    let mut freqs = [1; 128];
+    let first = match open_in(image, term, &mut docs, &mut freqs) {
+        Ok(held) => held,
+        Err(refusal) => return tell_refusal(rt, refusal),
+    };
+    mistype_on(rt, first, image, term, &mut docs, &mut freqs)?;
+    let end = match seek_in(first, image, term, TERMINATED, &mut docs, &mut freqs) {
+        Ok(held) => held,
+        Err(refusal) => return tell_refusal(rt, refusal),
+    };
+    mistype_on(rt, end, image, term, &mut docs, &mut freqs)
 }
 
 // Documents and occurrences below 300; whether the image is sound, 0 where it is; and its parts.

@@ -49,12 +49,11 @@ after ds s (seek t) = choose (leb t TERMINATED) (λ _. moved s (s.position + cou
 unfoldable pub here : List ℕ → List ℕ → State → Answer
 here ds fs s = at (get_or ds s.position TERMINATED) (get_or fs s.position 0) (length s.visited)
 
--- a target above TERMINATED is refused, but at the end answered as a step there
+-- a target above TERMINATED is refused, at the end too (document 02, Ask 10)
 unfoldable pub answer : List ℕ → List ℕ → State → Call → Answer
 unfolding after here choose
 answer ds fs s step = here ds fs (after ds s step)
-answer ds fs s (seek t) =
-    choose (or (leb t TERMINATED) (eqb s.position (length ds))) (λ _. here ds fs (after ds s (seek t))) (λ _. refused TargetTooLarge)
+answer ds fs s (seek t) = choose (leb t TERMINATED) (λ _. here ds fs (after ds s (seek t))) (λ _. refused TargetTooLarge)
 
 unfoldable pub answers_from : List ℕ → List ℕ → State → List Call → List Answer
 unfolding answer after

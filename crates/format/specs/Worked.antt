@@ -1,4 +1,4 @@
--- The worked lists of document 01, as one table with one test.
+-- The worked lists of document 01, as one table with one test; its last two cases are document 02's Ask 10.
 -- Assumes nothing.
 use Rattle.format.specs.declared.refusal.Refusal.TheVariants.{EntryBroken, BytesLeft, TargetTooLarge, IdTooLarge}
 use Rattle.std.specs.Prelude.{Bool, true, false, ◌&&◌ as and, List, [], ◌∷◌, ◌++◌, ℕ, ◌+◌, length, replicate, eqb, Ok, Err}
@@ -139,4 +139,8 @@ table =
     (model.at 2147483646 1 1 ∷ model.refused TargetTooLarge ∷ model.at TERMINATED 0 1 ∷ [])
     ∷ weighs 1 128 (wide 32 512) (Ok tt)
     ∷ weighs 1 128 (wide 33 528) (Err EntryBroken)
+    ∷ answers_to 1 0 [] (model.seek 2147483648 ∷ model.step ∷ [])
+    (model.at TERMINATED 0 1 ∷ model.refused TargetTooLarge ∷ model.at TERMINATED 0 1 ∷ [])
+    ∷ answers_to 1 3 three (model.seek 301 ∷ model.seek 2147483648 ∷ model.seek TERMINATED ∷ [])
+    (model.at 3 1 1 ∷ model.at TERMINATED 0 1 ∷ model.refused TargetTooLarge ∷ model.at TERMINATED 0 1 ∷ [])
     ∷ []

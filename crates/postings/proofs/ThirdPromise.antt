@@ -10,6 +10,9 @@
 --   "That promise is a single claim about the whole list of calls, those by value and those on the lent cursor mixed, and not one for
 --   each call. After a refusal the next call gets the same cursor again."
 --   "Where `doc` and `term_freq` are calls of their own, they give that document and that frequency."
+-- Document 01's answer to a target above 2,147,483,647 was 10, but at the end that of a step there. Document 02 changes that (Ask 10): "The
+-- target is now tested before the end." It is 10 at the end too: the model has it, and so `third_promise`; `seek_too_large` says it of one
+-- seek, on every image.
 -- What the promise asks is specs/ThirdPromise.antt `Promised`, of the model. `third_promise` says all of it of one list: the answers, the
 -- cursor after them, what `doc`, `term_freq` and `answer_at` give there, and that the model's set, whose size is the count, is the set of
 -- the different blocks in which its positions lie. Those three leave the cursor, and every beginning of a list is a list, so they may
@@ -28,8 +31,9 @@ use native.Mathlib.Omega.{arith}
 use borrow.Author.Tests.{lt-ltb}
 use lib.ListN.{length, get_or}
 use Rattle.format.specs.declared.refusal.Refusal.{Refusal}
+use Rattle.format.specs.declared.refusal.Refusal.TheVariants.{TargetTooLarge}
 use Rattle.format.specs.declared.Term.{Term}
-use Rattle.format.specs.Basics.{Outcome, put_at}
+use Rattle.format.specs.Basics.{Outcome, put_at, TERMINATED}
 use Rattle.format.specs.Reading.{reading, soundness, docs_of, freqs_of}
 use Rattle.format.specs.Model.{Call, step, seek, answers}
 use Rattle.format.proofs.Outcome.{refused≢ok}
@@ -38,11 +42,12 @@ use Rattle.segment_postings.specs.declared.Answer.{Answer}
 use Rattle.segment_postings.specs.declared.Held.{Held}
 use Rattle.segment_postings.specs.declared.Moved.{Moved}
 use Rattle.segment_postings.specs.declared.SegmentPostings.{SegmentPostings}
-use Rattle.segment_postings.specs.Cursor.{moved, opened, stepping, seeking, advanced, sought}
+use Rattle.segment_postings.specs.Cursor.{in_bounds_of, moved, opened, stepping, seeking, advanced, sought}
 use Rattle.segment_postings.specs.Calls.{cursor_of, Leaves, Reaches}
 use Rattle.segment_postings.specs.Called.{reaching, called, calls_from, calls, cursor_after, positions, answer_length, entries_place, model_numbers}
 use Rattle.segment_postings.specs.Called.{SameCall}
 use Rattle.segment_postings.proofs.Laws.CallsByValue.{open_in_calls, advance_in_calls, seek_in_calls}
+use Rattle.segment_postings.proofs.Laws.SeekQuestions.{seeking_too_large}
 use Rattle.segment_postings.proofs.Simulation.CallsSimulate.{shown-again, simulation}
 use Rattle.postings.specs.MixedCalls.{Manner, MadeCall, calls_of, Opened, handed_out, filled, unfilled}
 use Rattle.postings.specs.MixedCalls.{Meets, handed_back, left_there, came, stayed, Called, none, next}
@@ -139,7 +144,23 @@ pub refused-stays : {bs : List ℕ} {t : Term} {call : Call} {manner : Manner} {
     → Meets bs t call manner c (Err r) c' → c' ≡ c
 refused-stays {bs} {t} {call} {c = c} m = let p = met m in p.1 ∙ refused-called c bs t call (sym p.0)
 
--- ---- the same of `run_calls`, which makes the calls that its numbers code, by value and on a lent cursor
+-- ---- a target above 2147483647 is 10 wherever the cursor stands, at the end too, and leaves it; 16 alone is asked before
+
+too_large_called : (c : SegmentPostings) (bs : List ℕ) (t : Term) (target : ℕ) → in_bounds_of t (length bs) c.held ≡ true → TERMINATED < target
+    → called c bs t (seek target) ≡ record { answer = Err TargetTooLarge; cursor = c }
+unfolding called sought moved
+too_large_called c bs t target in_bounds high = rw (seeking_too_large c bs t target in_bounds high)
+
+-- in every manner, on every image, admitted or not
+pub seek_too_large : {bs : List ℕ} {t : Term} {target : ℕ} {manner : Manner} {c c' : SegmentPostings} {a : Outcome Answer}
+    → Meets bs t (seek target) manner c a c' → in_bounds_of t (length bs) c.held ≡ true → TERMINATED < target
+    → (a ≡ Err TargetTooLarge) × (c' ≡ c)
+seek_too_large {bs} {t} {target} {c = c} m in_bounds high =
+    let p = met m in
+    let e = too_large_called c bs t target in_bounds high in
+    (rw (p.0, e), rw (p.1, e))
+
+-- ---- the promise of `run_calls`, which makes the calls that its numbers code, by value and on a lent cursor
 
 -- a call's number says the call
 code-called : {made : MadeCall} {n : ℕ} → Code made n → call_of n ≡ made.call

@@ -1,5 +1,6 @@
 -- What `run_calls` writes, computed from its definition: the worked list of document 01, "Ids 0 to 128, mode 0: `85 7F 00 00 00 40 81`; seek
--- 128: position 128, 2 unpacked, 1 entry", with a place behind the answers that stays as it was; and the inputs that it refuses.
+-- 128: position 128, 2 unpacked, 1 entry", with a place behind the answers that stays as it was; a target above 2147483647 before the end
+-- and at it (document 02, Ask 10); and the inputs that it refuses.
 -- Assumes nothing.
 use mathlib.Core.List.{List, [], ◌∷◌}
 use mathlib.Core.Path.{◌≡◌, refl}
@@ -15,7 +16,7 @@ list = 0x85 ∷ 0x7F ∷ 0 ∷ 0 ∷ 0 ∷ 0x40 ∷ 0x81 ∷ []
 abbrev term : Term
 term = record { mode = 0; requested = 0; count = 129 }
 
--- a seek on the lent cursor, a target above 2147483647, a step by value
+-- a seek on the lent cursor, a target above 2147483647, a step by value to the end
 abbrev mixed : List ℕ
 mixed = (3 * 2 ^ 32 + 128) ∷ (1 * 2 ^ 32 + 2147483648) ∷ 0 ∷ []
 
@@ -27,6 +28,13 @@ mixed-answers = refl
 pub mixed-count : how_many list term mixed (replicate 21 7) ≡ 4
 unfolding how_many pivots_below_of
 mixed-count = refl
+
+-- at the end, on the empty list: such a target by value and on the lent cursor, then the largest that is taken
+pub ended-answers : answers_after [] (record { mode = 0; requested = 0; count = 0 })
+    ((1 * 2 ^ 32 + 2147483648) ∷ (3 * 2 ^ 32 + 4294967295) ∷ (1 * 2 ^ 32 + 2147483647) ∷ []) (replicate 20 7)
+    ≡ 0 ∷ 2147483647 ∷ 0 ∷ 1 ∷ 0 ∷ 10 ∷ 0 ∷ 0 ∷ 0 ∷ 0 ∷ 10 ∷ 0 ∷ 0 ∷ 0 ∷ 0 ∷ 0 ∷ 2147483647 ∷ 0 ∷ 1 ∷ 0 ∷ []
+unfolding answers_after pivots_below_of
+ended-answers = refl
 
 -- one place too few
 pub too_short : answers_after list term mixed (replicate 19 7) ≡ replicate 19 7

@@ -7,3 +7,4 @@ pub mod LooksAt
 pub mod ReachedBounds
 pub mod ReadQuestions
 pub mod RefusedOpening
+pub mod SeekQuestions

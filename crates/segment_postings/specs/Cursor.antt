@@ -170,14 +170,14 @@ behind c bs t target =
     ask (nat_lt c.held.block (full_blocks_of t)) StateBroken λ _.
     and_then (leaving c.held bs t target) λ landed. Ok (at_place landed (place_of landed target))
 
--- a seek: 16; at the end nothing, whatever the target; 10; a target not behind the present document stays; then the held block, if its
--- last id is at least the target, else the blocks behind it
+-- a seek: 16; 10, at the end too (document 02, Ask 10); at the end nothing; a target not behind the present document stays; then the held
+-- block, if its last id is at least the target, else the blocks behind it
 unfoldable pub seeking : SegmentPostings → List ℕ → Term → ℕ → Outcome SegmentPostings
 unfolding ask choose in_bounds_of position within behind
 seeking c bs t target =
     ask (in_bounds_of t (length bs) c.held) StateBroken λ _.
-    choose (position c.held == t.count) (λ _. Ok c) λ _.
     ask (nat_le target TERMINATED) TargetTooLarge λ _.
+    choose (position c.held == t.count) (λ _. Ok c) λ _.
     choose (nat_le target (slice_index c.docs c.held.place)) (λ _. Ok c) λ _.
     choose (nat_le target c.held.last_doc) (λ _. within c t target) (λ _. behind c bs t target)
 

@@ -48,8 +48,8 @@ fn seek_behind(
     Ok(landed.at_place(search_block(docs, target)))
 }
 
-// Seeks to the first document, not before the present one, that is at least the target; if there is none, to the end. At the end
-// nothing changes, whatever the target.
+// Seeks to the first document, not before the present one, that is at least the target; if there is none, to the end. A target above
+// TERMINATED is 10, at the end too; any other changes nothing there.
 pub fn seek_in(
     held: Held,
     image: &[u8],
@@ -63,11 +63,11 @@ pub fn seek_in(
     if !held.in_bounds(term, image.len()) {
         return Err(Refusal::StateBroken);
     }
-    if held.at_end(term) {
-        return Ok(held);
-    }
     if TERMINATED < target {
         return Err(Refusal::TargetTooLarge);
+    }
+    if held.at_end(term) {
+        return Ok(held);
     }
     if target <= docs[held.place] {
         return Ok(held);

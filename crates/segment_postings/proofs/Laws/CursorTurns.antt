@@ -108,8 +108,8 @@ behind-is c bs t target = refl
 pub seeking-is : (c : SegmentPostings) (bs : List ℕ) (t : Term) (target : ℕ)
     → seeking c bs t target
     ≡ (ask (in_bounds_of t (length bs) c.held) StateBroken λ _.
-    choose (eqb (position c.held) t.count) (λ _. Ok c) λ _.
     ask (leb target TERMINATED) TargetTooLarge λ _.
+    choose (eqb (position c.held) t.count) (λ _. Ok c) λ _.
     choose (leb target (get_or c.docs c.held.place 0)) (λ _. Ok c) λ _.
     choose (leb target c.held.last_doc) (λ _. within c t target) (λ _. behind c bs t target))
 unfolding seeking

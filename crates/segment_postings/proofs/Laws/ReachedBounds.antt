@@ -76,13 +76,11 @@ module _ (c : SegmentPostings) (bs : List ℕ) (t : Term) where
         let asked = ask-ok _ _ _ (sym (seeking-is c bs t target) ∙ e) in
         let goal : Outcome SegmentPostings → Type 0 = λ o. o ≡ Ok d → Near t d in
         let stays : goal (Ok c) = stays_near (bounded t (length bs) c.held asked.0) in
+        let small = ask-ok _ _ _ asked.1 in
         choose_elim goal _ _ _ (λ _. stays)
-        (λ _ k.
-        let small = ask-ok _ _ _ k in
-        choose_elim goal _ _ _ (λ _. stays)
-        (λ _. choose_elim goal _ _ _ (λ _. within_near) (λ _. behind_near (leb-true _ _ small.0)))
-        small.1)
-        asked.1
+        (λ _. choose_elim goal _ _ _ (λ _. stays)
+        (λ _. choose_elim goal _ _ _ (λ _. within_near) (λ _. behind_near (leb-true _ _ small.0))))
+        small.1
 
 -- ---- a fresh cursor's seek
 

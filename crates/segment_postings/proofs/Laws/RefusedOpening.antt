@@ -8,7 +8,8 @@ use Rattle.format.specs.declared.Term.{Term}
 use Rattle.format.specs.Basics.{ask}
 use Rattle.segment_postings.specs.Cursor.{in_bounds_of, blank, stepping, seeking, value_at}
 use Rattle.segment_postings.proofs.arrays.Question16.{Bounded, out-of_bounds}
-use Rattle.segment_postings.proofs.Laws.CursorTurns.{stepping-is, seeking-is}
+use Rattle.segment_postings.proofs.Laws.CursorTurns.{stepping-is}
+use Rattle.segment_postings.proofs.Laws.SeekQuestions.{seeking_broken}
 
 module _ (bs : List ℕ) (t : Term) where
   at_none : Bounded t (length bs) blank.held → 128 < 128
@@ -23,8 +24,7 @@ module _ (bs : List ℕ) (t : Term) where
   unopened_stepping = rw (stepping-is, blank_outside)
 
   pub unopened_seeking : (target : ℕ) → seeking blank bs t target ≡ Err StateBroken
-  unfolding ask
-  unopened_seeking target = rw (seeking-is, blank_outside)
+  unopened_seeking target = seeking_broken blank bs t target blank_outside
 
   pub unopened_value : (values : List ℕ) (end : ℕ) → value_at values end blank.held bs t ≡ Err StateBroken
   unfolding value_at ask

@@ -4,17 +4,15 @@
 -- what the model answers, refusals too, and leaves one beside the model's next state; what `doc`, `term_freq` and `answer_at` give of it
 -- is the model's. An image that `validate` admits is sound in every requested mode (format/proofs/Requested.antt `sound_requested`).
 -- The argument: a step and a seek up to TERMINATED leave cursor and model together (StepSimulates.antt, SeekSimulates.antt); a target
--- above it does nothing at the end, and elsewhere both refuse it and stay. A list of calls is by induction.
+-- above it both refuse and stay. A list of calls is by induction.
 -- Assumes nothing.
 use Rattle.format.specs.declared.refusal.Refusal.{Refusal}
 use Rattle.format.specs.declared.refusal.Refusal.TheVariants.{TargetTooLarge}
-use Rattle.std.specs.Prelude.{◌≡◌, ℕ, ◌<◌, ◌≤◌, List, [], ◌∷◌, ◌++◌, map, length, get_or, Ok, Err}
-use mathlib.Core.Logic.{⊎_elim}
+use Rattle.std.specs.Prelude.{◌≡◌, ℕ, ◌<◌, ◌≤◌, List, [], ◌∷◌, ◌++◌, map, get_or, Ok, Err}
 use mathlib.Core.Path.{refl, ap, ap₂, ◌∙◌}
-use native.Mathlib.Nat.{eq-or-lt_of_le}
 use native.Mathlib.Decide.{dec_le}
 use native.Mathlib.Omega.{arith}
-use borrow.Author.Tests.{le-leb, lt-leb, eq-eqb, ne_eqb}
+use borrow.Author.Tests.{le-leb, lt-leb}
 use Rattle.format.specs.declared.Term.{Term}
 use Rattle.format.specs.Basics.{Outcome, choose, TERMINATED}
 use Rattle.format.specs.Reading.{reading, docs_of, freqs_of}
@@ -25,14 +23,15 @@ use Rattle.format.proofs.Visited.{seek-stands}
 use Rattle.segment_postings.specs.declared.Answer.{Answer}
 use Rattle.segment_postings.specs.declared.Moved.{Moved}
 use Rattle.segment_postings.specs.declared.SegmentPostings.{SegmentPostings}
-use Rattle.segment_postings.specs.Cursor.{position, answering, moved, blank, opening, opened, advanced, doc_at, freq_at, sought}
+use Rattle.segment_postings.specs.Cursor.{answering, moved, blank, opening, opened, advanced, doc_at, freq_at, sought}
 use Rattle.segment_postings.specs.Called.{shown, with_entries, reaching, called, calls_from, calls, cursor_after, Counts}
 use Rattle.segment_postings.specs.Called.{numbers, all_numbers, positions_from, positions, model_numbers}
 use Rattle.segment_postings.proofs.Laws.CursorTurns.{moved_ok, opened-is}
 use Rattle.segment_postings.proofs.Laws.LandingParts.{answering-at}
-use Rattle.segment_postings.proofs.Simulation.HoldsBlock.{doc_holds, freq_holds}
-use Rattle.segment_postings.proofs.Simulation.StepSimulates.{Agrees, docs-count, entries_agree, opening-agrees, answer-agrees, stepping-agrees}
-use Rattle.segment_postings.proofs.Simulation.SeekSimulates.{seeking-end, seeking-refused, seeking-agrees}
+use Rattle.segment_postings.proofs.Laws.SeekQuestions.{seeking_too_large}
+use Rattle.segment_postings.proofs.Simulation.HoldsBlock.{holds-in_bounds_of, doc_holds, freq_holds}
+use Rattle.segment_postings.proofs.Simulation.StepSimulates.{Agrees, entries_agree, opening-agrees, answer-agrees, stepping-agrees}
+use Rattle.segment_postings.proofs.Simulation.SeekSimulates.{seeking-agrees}
 
 -- ---- what is claimed
 
@@ -156,14 +155,9 @@ module _ (ds fs : List ℕ) (m : State) where
   answer_allowed step _ = refl
   answer_allowed (seek target) h = rw (le-leb target TERMINATED h)
 
-  module _ (target : ℕ) (h : TERMINATED < target) where
-    answer-end : m.position ≡ length ds → answer ds fs m (seek target) ≡ here ds fs m
-    unfolding answer choose
-    answer-end e = rw (seek-stands ds m target h, lt-leb target TERMINATED h, eq-eqb m.position (length ds) e)
-
-    answer-refused : m.position < length ds → answer ds fs m (seek target) ≡ model.refused TargetTooLarge
-    unfolding answer choose
-    answer-refused l = rw (lt-leb target TERMINATED h, ne_eqb m.position (length ds) (λ e. omega arith))
+  answer-refused : (target : ℕ) → TERMINATED < target → answer ds fs m (seek target) ≡ model.refused TargetTooLarge
+  unfolding answer choose
+  answer-refused target h = rw (lt-leb target TERMINATED h)
 
 -- ---- one call
 
@@ -193,18 +187,14 @@ module _ {t : Term} {bs : List ℕ} where
     high_goes : (target : ℕ) → TERMINATED < target → GoesBy (seek target)
     unfolding reaching with_entries
     high_goes target high =
-        let s = k.sound in
-        let stays = seek-stands (docs t bs) m target high in
-        ⊎_elim
-        (λ (e : position c.held ≡ t.count).
-        let there : m.position ≡ length (docs t bs) = omega (arith, k.agrees.same_position, docs-count s) in
-        rw (called_is, stays, answer-end (docs t bs) (freqs t bs) m target high there)
-        (goes_to c s k.agrees (seeking-end s k.agrees.holds target e)))
-        (λ (l : position c.held < t.count).
-        let there : m.position < length (docs t bs) = omega (arith, k.agrees.same_position, docs-count s) in
-        rw (called_is, stays, answer-refused (docs t bs) (freqs t bs) m target high there, seeking-refused s k.agrees.holds target high l, moved-refused)
-        (record { answer_is = refl; stands = k }))
-        (eq-or-lt_of_le k.agrees.holds.position_most)
+        rw (
+          called_is,
+          seek-stands (docs t bs) m target high,
+          answer-refused (docs t bs) (freqs t bs) m target high,
+          seeking_too_large c bs t target (holds-in_bounds_of k.sound k.agrees.holds) high,
+          moved-refused,
+        )
+        (record { answer_is = refl; stands = k })
 
     call-goes : (call : Call) → GoesBy call
     call-goes step = allowed_goes step tt

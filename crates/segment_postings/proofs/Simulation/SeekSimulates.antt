@@ -1,9 +1,8 @@
 -- A seek leaves cursor and model together. A held block passes the tests that guard a broken state, so a seek with a target up to
 -- TERMINATED is never refused, and it goes where the model's goes: to the first document that is at least the target, if that lies
--- behind the position. A target above TERMINATED does nothing at the end and is refused elsewhere.
+-- behind the position.
 -- Assumes nothing.
-use Rattle.format.specs.declared.refusal.Refusal.TheVariants.{TargetTooLarge}
-use Rattle.std.specs.Prelude.{◌≡◌, ℕ, ◌<◌, ◌≤◌, max, leb, List, get_or, Ok, Err}
+use Rattle.std.specs.Prelude.{◌≡◌, ℕ, ◌<◌, ◌≤◌, max, leb, List, get_or, Ok}
 use mathlib.Core.Logic.{⊎_elim}
 use mathlib.Core.Path.{refl}
 use native.Mathlib.Nat.{eq-or-lt_of_le}
@@ -22,6 +21,7 @@ use Rattle.format.proofs.Visited.{seek-goes}
 use Rattle.segment_postings.specs.declared.SegmentPostings.{SegmentPostings}
 use Rattle.segment_postings.specs.Cursor.{position, at_place, place_of, within, behind, seeking}
 use Rattle.segment_postings.proofs.Laws.CursorTurns.{behind-is, seeking-is}
+use Rattle.segment_postings.proofs.Laws.SeekQuestions.{seeking-ended}
 use Rattle.segment_postings.proofs.Simulation.HoldsBlock.{Holds, MovesTo, holds-in_bounds_of}
 use Rattle.segment_postings.proofs.Simulation.PlaceInList.{place_below, place-reaches, place_inside}
 use Rattle.segment_postings.proofs.Simulation.SeekPosition.{seek-stays, seek-onward, earlier, within-onward, within_moves, left-full, leaving_moves}
@@ -34,18 +34,6 @@ module _ {t : Term} {bs : List ℕ} (s : Sound t bs) where
   -- a call that stays where it is
   stands : {c : SegmentPostings} → Holds s c → MovesTo s (position c.held) c c
   stands k = record { holds = k; goes = refl; stays = λ _. refl; grows = λ l. absurd (omega arith) }
-
-  module _ {c : SegmentPostings} (k : Holds s c) (target : ℕ) where
-    -- at the end nothing, whatever the target
-    pub seeking-end : position c.held ≡ t.count → seeking c bs t target ≡ Ok c
-    unfolding ask choose
-    seeking-end e = rw (seeking-is, holds-in_bounds_of s k, eq-eqb (position c.held) t.count e)
-
-    -- else a target above TERMINATED is refused
-    pub seeking-refused : TERMINATED < target → position c.held < t.count → seeking c bs t target ≡ Err TargetTooLarge
-    unfolding ask choose
-    seeking-refused high inside =
-        rw (seeking-is, holds-in_bounds_of s k, ne_eqb (position c.held) t.count (λ e. omega arith), lt-leb target TERMINATED high)
 
   module _ {c : SegmentPostings} (k : Holds s c) (target : ℕ) (most : target ≤ TERMINATED) where
     abbrev Seeks : SegmentPostings → Type 0
@@ -81,7 +69,7 @@ module _ {t : Term} {bs : List ℕ} (s : Sound t bs) where
         choose (leb target c.held.last_doc) (λ _. within c t target) (λ _. behind c bs t target))
     unfolding ask choose
     seeking-on h =
-        rw (seeking-is, holds-in_bounds_of s k, ne_eqb (position c.held) t.count (λ e. omega arith), le-leb target TERMINATED most)
+        rw (seeking-is, holds-in_bounds_of s k, le-leb target TERMINATED most, ne_eqb (position c.held) t.count (λ e. omega arith))
 
     pub seeking-seeks : (c' : SegmentPostings) × Seeks c' × (seeking c bs t target ≡ Ok c')
     unfolding choose
@@ -89,7 +77,7 @@ module _ {t : Term} {bs : List ℕ} (s : Sound t bs) where
         ⊎_elim
         (λ e.
         let here : max (position c.held) (count_below target docs) ≡ position c.held = omega (arith, count-le target docs, docs-count s) in
-        (c, rw here (stands k), seeking-end k target e))
+        (c, rw here (stands k), seeking-ended c bs t target (holds-in_bounds_of s k) most (eq-eqb (position c.held) t.count e)))
         (λ inside. elim (dec_le target (get_or c.docs c.held.place 0)) [
           | yes h ↦
               let here : max (position c.held) (count_below target docs) ≡ position c.held = omega (arith, seek-stays s k target inside h) in

@@ -1,4 +1,5 @@
--- A seek, and the rank that a fresh cursor's seek finds: one law for each way through the tests.
+-- A seek behind its first questions (Laws/SeekQuestions.antt), and the rank that a fresh cursor's seek finds: one law for each way through
+-- the tests.
 -- Assumes nothing.
 use Rattle.format.specs.declared.refusal.Refusal.{Refusal}
 use Rattle.format.specs.declared.refusal.Refusal.TheVariants.{TargetTooLarge, StateBroken}
@@ -95,36 +96,22 @@ module _ (c : SegmentPostings) (bs : List ℕ) (t : Term) (target : ℕ) where
   unfolding ask full_blocks_of
   behind-full h = rw (behind-is, lt-ltb _ _ h)
 
--- ---- a seek
+-- ---- a seek that isn't at the end
 
-module _ (c : SegmentPostings) (bs : List ℕ) (t : Term) (target : ℕ) where
-  pub seeking_broken : in_bounds_of t (length bs) c.held ≡ false → seeking c bs t target ≡ Err StateBroken
-  unfolding ask
-  seeking_broken e = rw (seeking-is, e)
+module _ (c : SegmentPostings) (bs : List ℕ) (t : Term) (target : ℕ) (in_bounds : in_bounds_of t (length bs) c.held ≡ true)
+    (small : target ≤ TERMINATED) (before : eqb (position c.held) t.count ≡ false) where
+  pub seeking-stays : target ≤ get_or c.docs c.held.place 0 → seeking c bs t target ≡ Ok c
+  unfolding ask choose
+  seeking-stays h = rw (seeking-is, in_bounds, le-leb _ _ small, before, le-leb _ _ h)
 
-  module _ (in_bounds : in_bounds_of t (length bs) c.held ≡ true) where
-    pub seeking-ended : eqb (position c.held) t.count ≡ true → seeking c bs t target ≡ Ok c
+  module _ (ahead : get_or c.docs c.held.place 0 < target) where
+    pub seeking-within : target ≤ c.held.last_doc → seeking c bs t target ≡ within c t target
     unfolding ask choose
-    seeking-ended e = rw (seeking-is, in_bounds, e)
+    seeking-within h = rw (seeking-is, in_bounds, le-leb _ _ small, before, lt-leb _ _ ahead, le-leb _ _ h)
 
-    module _ (before : eqb (position c.held) t.count ≡ false) where
-      pub seeking_too_large : TERMINATED < target → seeking c bs t target ≡ Err TargetTooLarge
-      unfolding ask choose
-      seeking_too_large h = rw (seeking-is, in_bounds, before, lt-leb _ _ h)
-
-      module _ (small : target ≤ TERMINATED) where
-        pub seeking-stays : target ≤ get_or c.docs c.held.place 0 → seeking c bs t target ≡ Ok c
-        unfolding ask choose
-        seeking-stays h = rw (seeking-is, in_bounds, before, le-leb _ _ small, le-leb _ _ h)
-
-        module _ (ahead : get_or c.docs c.held.place 0 < target) where
-          pub seeking-within : target ≤ c.held.last_doc → seeking c bs t target ≡ within c t target
-          unfolding ask choose
-          seeking-within h = rw (seeking-is, in_bounds, before, le-leb _ _ small, lt-leb _ _ ahead, le-leb _ _ h)
-
-          pub seeking-behind : c.held.last_doc < target → seeking c bs t target ≡ behind c bs t target
-          unfolding ask choose
-          seeking-behind h = rw (seeking-is, in_bounds, before, le-leb _ _ small, lt-leb _ _ ahead, lt-leb _ _ h)
+    pub seeking-behind : c.held.last_doc < target → seeking c bs t target ≡ behind c bs t target
+    unfolding ask choose
+    seeking-behind h = rw (seeking-is, in_bounds, le-leb _ _ small, before, lt-leb _ _ ahead, lt-leb _ _ h)
 
 -- ---- a fresh cursor's seek, and the rank
 
