@@ -70,7 +70,7 @@ fn main() {
 
         // Seek 8, a step to the end, and there a seek to a mistyped target: by value, and on a lent cursor.
         let by_value = [(1u64 << 32) + 8, 0, (1 << 32) + 2147483648];
-        let lent = by_value.map(|call| (2 << 32) + call);
+        let lent = by_value.map(|call| (2 << 32) + call); // kinds 2 and 3 for 0 and 1
         let [mut answers, mut lent_answers] = [[0u64; 4 * ANSWER_NUMBERS]; 2];
         for (calls, answers) in [(by_value, &mut answers), (lent, &mut lent_answers)] {
             let n = vilthorwy_run_calls(1, 1, 3, image.as_ptr(), image.len(), calls.as_ptr(), 3, answers.as_mut_ptr(), answers.len());

@@ -39,7 +39,7 @@ enum {
     VILTHORWY_FREQ_OUT_OF_RANGE = 7,  /* image: a frequency that isn't 1 to 4294967295 */
     VILTHORWY_NUMBER_BROKEN = 8,      /* image: a number of the tail is incomplete, missing or beyond its limits */
     VILTHORWY_BYTES_LEFT = 9,         /* image: bytes are left behind the tail */
-    VILTHORWY_TARGET_TOO_LARGE = 10,  /* a target above 2147483647, of a seek at the end too */
+    VILTHORWY_TARGET_TOO_LARGE = 10,  /* a target above 2147483647; a seek asks it at the end too */
     VILTHORWY_ID_TOO_LARGE = 11,      /* writing: an id of 2147483647 or more */
     VILTHORWY_ID_NOT_RISING = 12,     /* writing: an id that isn't above the one before */
     VILTHORWY_FREQ_ZERO = 13,         /* writing: a frequency of 0 that would be kept */
@@ -90,8 +90,8 @@ uint64_t vilthorwy_total(uint8_t mode, uint32_t count, const uint8_t *image, siz
  * a lent cursor; a step takes no notice of its target. VILTHORWY_ANSWER_NUMBERS numbers are answered for the opening and for each call.
  * After a refusal the next call finds the cursor as it was. At the end the document is 2147483647 and the frequency 0, and a step or a
  * seek stays there; but a seek to a target above 2147483647 is refused under 10 wherever the cursor is, at the end too. Of an image that
- * isn't sound the call is refused that comes to read what is wrong. Returns how many answers were written: one for a refused opening; 0, and
- * nothing written, where answers is shorter than VILTHORWY_ANSWER_NUMBERS * (calls + 1) or a kind is unknown. */
+ * isn't sound the call is refused that comes to read what is wrong. Returns how many answers were written: one for a refused opening; 0,
+ * and nothing written, where answers is shorter than VILTHORWY_ANSWER_NUMBERS * (calls + 1) or a kind is unknown. */
 uint64_t vilthorwy_run_calls(uint8_t mode, uint8_t requested, uint32_t count, const uint8_t *image, size_t image_len,
                              const uint64_t *calls, size_t calls_len, uint64_t *answers, size_t answers_len);
 

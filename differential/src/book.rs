@@ -26,7 +26,7 @@ impl Book<'_> {
         let end = self.documents.len();
         match call {
             Call::Step => self.position = end.min(self.position + 1),
-            // At the end too.
+            // Ask 10: at the end too.
             Call::Seek(target) if target > END => return refused(10),
             Call::Seek(target) => {
                 while self.position < end && self.documents[self.position].0 < target {

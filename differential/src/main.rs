@@ -1,9 +1,9 @@
 //! Runs against the Rust. `differential [SEED] [--long]` prints how many cases were tried and ends
-//! with 0, or prints a smallest input that shows a difference and ends with 1.
+//! with 0, or prints a smallest input that shows a difference, or what wasn't tried, and ends with 1.
 //!
 //! Without a feature the Rust itself is tried, and the plain reading of `reference`: both must do
-//! what document 01 says of worked lists, and agree with each other and with the book (`book`), on
-//! the targets that the Rust takes.
+//! what documents 01 and 02 say of worked lists and calls, and agree with each other and with the
+//! book (`book`), on the targets that the Rust takes.
 
 use std::env;
 use std::fmt::{self, Debug};
@@ -68,21 +68,30 @@ impl TooLarge {
         }
     }
 
-    /// The manners that are linked had such seeks, before the end and at it.
+    /// The manners that a run has, with their counts: on arrays only the library of `bench` seeks.
+    fn counted(&self) -> impl Iterator<Item = (&'static str, [u64; 2])> {
+        let manners = if cfg!(feature = "linked-bench") { 3 } else { 2 };
+        Self::MANNERS.into_iter().zip(self.0).take(manners)
+    }
+
+    /// Whether each manner had such seeks, before the end and at it.
     fn all_tried(&self) -> Outcome {
-        let linked = if cfg!(feature = "linked-bench") { 3 } else { 2 };
-        match self.0.iter().take(linked).position(|counts| counts.contains(&0)) {
+        match self.counted().find(|(_, counts)| counts.contains(&0)) {
             None => Ok(()),
-            Some(manner) => Err(format!("no seek to too large a target {}", Self::MANNERS[manner])),
+            Some((manner, [before, at])) => {
+                let seeks = "seeks to too large a target";
+                Err(format!("NOT TRIED: {seeks} {manner}: {before} before the end, {at} at it"))
+            }
         }
     }
 }
 
 impl fmt::Display for TooLarge {
     fn fmt(&self, f: &mut fmt::Formatter) -> fmt::Result {
-        let counts = Self::MANNERS.iter().zip(self.0);
-        let counts: Vec<String> =
-            counts.map(|(manner, [before, at])| format!("{before} and {at} {manner}")).collect();
+        let counts: Vec<String> = self
+            .counted()
+            .map(|(manner, [before, at])| format!("{before} and {at} {manner}"))
+            .collect();
         write!(f, "  seeks to too large a target, before the end and at it: {}", counts.join(", "))
     }
 }
@@ -129,13 +138,14 @@ fn main() -> ExitCode {
     println!("seed {seed}{}", if long { ", long" } else { "" });
     let (tally, outcome) = jobs::run(seed, long);
     println!("cases:\n{tally}");
+    let outcome = outcome.map_err(|difference| format!("DIFFERENT: {difference}"));
     match outcome.and_then(|()| tally.too_large.all_tried()) {
         Ok(()) => {
             println!("no difference");
             ExitCode::SUCCESS
         }
-        Err(difference) => {
-            println!("DIFFERENT: {difference}");
+        Err(why) => {
+            println!("{why}");
             ExitCode::FAILURE
         }
     }

@@ -1,6 +1,6 @@
-//! Document 01 read once more, with what document 02 asks since: what stands in an image, and which
-//! question it fails first. Plain code of its own, in the order of the questions; it knows neither
-//! the Rust nor the library.
+//! Document 01 read once more, with document 02's Ask 10: what stands in an image, and which question
+//! it fails first. Plain code of its own, in the order of the questions; it knows neither the Rust nor
+//! the library.
 
 use crate::reader::{refused, Answer, Call, Caller, Image, Reader, ANSWER_NUMBERS};
 

@@ -1,5 +1,5 @@
-//! What documents 01 and 02 say in numbers, of the Rust over the shims, of the plain reading and, where
-//! it is linked, of the library.
+//! What documents 01 and 02 say in numbers, tried on the Rust over the shims, on the plain reading and,
+//! where it is linked, on the library.
 
 use differential::lists::List;
 use differential::oracle::{self, Opener, TERMINATED};

@@ -1,5 +1,5 @@
-// For measuring: many seeks on one cursor whose block stays in two arrays, so that no call copies it. Modes are bytes, and slices stand
-// side by side, since C hands them in so; the two arrays of a block do, since `open_in` takes them so.
+// For measuring, and for the comparison with the Rust: many seeks on one cursor whose block stays in two arrays, so that no call copies it.
+// Modes are bytes, and slices stand side by side, since C hands them in so; the two arrays of a block do, since `open_in` takes them so.
 
 #![tactic(auto)]
 

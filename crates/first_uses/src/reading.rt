@@ -8,6 +8,7 @@ use postings::{
 };
 use std::io;
 
+// One above the largest target that a seek takes.
 const MISTYPED: u32 = 2147483648;
 
 // A cursor by value: the first document, the next, the first at or above 300, and what stands there.
@@ -56,7 +57,7 @@ pub(crate) fn walk_arrays(rt: &impl Print, image: &[u8], term: Term) -> io::Resu
     }
 }
 
-// A target above the largest that is taken, by value and on a lent cursor, and the document where that is left.
+// Such a target by value and on a lent cursor, and the document at which the cursor is left.
 fn mistype_from(
     rt: &impl Print,
     cursor: SegmentPostings,
@@ -71,7 +72,7 @@ fn mistype_from(
     tell_value(rt, "doc", found)
 }
 
-// Such a target is refused, at the first document and at the end, and the cursor stays where it was.
+// It is refused, at the first document and at the end, and the cursor stays where it was.
 pub(crate) fn mistype(rt: &impl Print, image: &[u8], term: Term) -> io::Result<()> {
     let opened = open(image, term);
     mistype_from(rt, opened.cursor, image, term)?;
@@ -79,7 +80,7 @@ pub(crate) fn mistype(rt: &impl Print, image: &[u8], term: Term) -> io::Result<(
     mistype_from(rt, ended.cursor, image, term)
 }
 
-// The same on two arrays, and what stands where they are left.
+// The same on two arrays, and what stands there after the refusal.
 fn mistype_on(
     rt: &impl Print,
     held: Held,
@@ -93,7 +94,7 @@ fn mistype_on(
     tell_answer(rt, answer_at(held, term, docs, freqs))
 }
 
-// .. at the first document and at the end, with the caller's own two arrays.
+// The same at the first document and at the end, on two arrays of the caller's own.
 pub(crate) fn mistype_arrays(rt: &impl Print, image: &[u8], term: Term) -> io::Result<()> {
     let mut docs = [TERMINATED; 128];
     let mut freqs = [1; 128];

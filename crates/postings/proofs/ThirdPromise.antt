@@ -144,7 +144,7 @@ pub refused-stays : {bs : List ℕ} {t : Term} {call : Call} {manner : Manner} {
     → Meets bs t call manner c (Err r) c' → c' ≡ c
 refused-stays {bs} {t} {call} {c = c} m = let p = met m in p.1 ∙ refused-called c bs t call (sym p.0)
 
--- ---- a target above 2147483647 is 10 wherever the cursor stands, at the end too, and leaves it; 16 alone is asked before
+-- ---- a target above 2147483647 is 10 wherever the cursor stands, at the end too, and leaves the cursor as it was; 16 alone is asked before
 
 too_large_called : (c : SegmentPostings) (bs : List ℕ) (t : Term) (target : ℕ) → in_bounds_of t (length bs) c.held ≡ true → TERMINATED < target
     → called c bs t (seek target) ≡ record { answer = Err TargetTooLarge; cursor = c }

@@ -74,7 +74,7 @@
 //
 // In each of these manners a seek to a target above 2147483647 is refused, at the end too, and leaves the cursor where it was:
 //
-//     let moved = seek(moved.cursor, image, term, 2147483648);         // Err(Refusal::TargetTooLarge), 10
+//     let moved = seek(moved.cursor, image, term, 2147483648);         // moved.answer: Err(Refusal::TargetTooLarge), 10
 //
 // COUNTS. From a fresh cursor; a target above 2147483647 is `Refusal::TargetTooLarge` (10). They ask their questions of what they read
 // alone, and so answer of images too that aren't sound: `rank` unpacks the first block and the one that it lands on, `total` the blocks up

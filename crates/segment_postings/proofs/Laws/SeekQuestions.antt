@@ -1,5 +1,5 @@
 -- What a seek asks before it looks at the held values, of every cursor and every image, in turn: 16 of the cursor's numbers; 10 of the
--- target, at the end too (document 02, Ask 10); and whether it is at the end, where a target that passed changes nothing.
+-- target, at the end too (document 02, Ask 10); and whether it is at the end, where any other target changes nothing.
 -- Assumes nothing.
 use Rattle.format.specs.declared.refusal.Refusal.TheVariants.{TargetTooLarge, StateBroken}
 use Rattle.std.specs.Prelude.{◌≡◌, ℕ, ◌<◌, ◌≤◌, true, false, eqb, List, length, Ok, Err}

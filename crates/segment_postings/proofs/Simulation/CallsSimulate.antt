@@ -4,7 +4,7 @@
 -- what the model answers, refusals too, and leaves one beside the model's next state; what `doc`, `term_freq` and `answer_at` give of it
 -- is the model's. An image that `validate` admits is sound in every requested mode (format/proofs/Requested.antt `sound_requested`).
 -- The argument: a step and a seek up to TERMINATED leave cursor and model together (StepSimulates.antt, SeekSimulates.antt); a target
--- above it both refuse and stay. A list of calls is by induction.
+-- above it both refuse, and both stay. A list of calls is by induction.
 -- Assumes nothing.
 use Rattle.format.specs.declared.refusal.Refusal.{Refusal}
 use Rattle.format.specs.declared.refusal.Refusal.TheVariants.{TargetTooLarge}
