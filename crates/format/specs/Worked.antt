@@ -1,7 +1,8 @@
--- The worked lists of document 01, as one table with one test; its last two cases are document 02's Ask 10.
+-- The worked lists of document 01, as one table with one test; its last three cases are document 02's Asks 10 and 2.
 -- Assumes nothing.
 use Rattle.format.specs.declared.refusal.Refusal.TheVariants.{EntryBroken, BytesLeft, TargetTooLarge, IdTooLarge}
 use Rattle.std.specs.Prelude.{Bool, true, false, ◌&&◌ as and, List, [], ◌∷◌, ◌++◌, ℕ, ◌+◌, length, replicate, eqb, Ok, Err}
+use mir.Val.{bool_byte}
 use Rattle.format.specs.declared.refusal.Refusal.{Refusal}
 use Rattle.format.specs.Refusal.{number_of}
 use Rattle.format.specs.Basics.{Outcome, tabulate, TERMINATED}
@@ -22,7 +23,7 @@ same (x ∷ xs) (y ∷ ys) = and (eqb x y) (same xs ys)
 -- an answer as a list of numbers
 unfoldable pub shown : List Answer → List ℕ
 shown [] = []
-shown (model.at d f u ∷ rest) = 0 ∷ d ∷ f ∷ u ∷ shown rest
+shown (model.at d f u hit ∷ rest) = 0 ∷ d ∷ f ∷ u ∷ bool_byte hit ∷ shown rest
 shown (model.refused r ∷ rest) = number_of r ∷ shown rest
 
 pub data Case : Type 0 where
@@ -114,7 +115,7 @@ table =
     writes 1 [] [] []
     ∷ weighs 0 0 (7 ∷ []) (Err BytesLeft)
     ∷ weighs 1 0 (7 ∷ []) (Err BytesLeft)
-    ∷ answers_to 1 0 [] [] (model.at TERMINATED 0 1 ∷ [])
+    ∷ answers_to 1 0 [] [] (model.at TERMINATED 0 1 false ∷ [])
     ∷ writes 1 (0 ∷ []) (1 ∷ []) (0x80 ∷ 0x81 ∷ [])
     ∷ writes 0 (0 ∷ []) (1 ∷ []) (0x80 ∷ [])
     ∷ writes 1 (3 ∷ 7 ∷ 300 ∷ []) (1 ∷ 2 ∷ 130 ∷ []) three
@@ -122,7 +123,7 @@ table =
     ∷ totals 1 3 three 300 3
     ∷ totals 1 3 three TERMINATED 133
     ∷ answers_to 1 3 three (model.step ∷ model.step ∷ model.step ∷ [])
-    (model.at 3 1 1 ∷ model.at 7 2 1 ∷ model.at 300 130 1 ∷ model.at TERMINATED 0 1 ∷ [])
+    (model.at 3 1 1 false ∷ model.at 7 2 1 false ∷ model.at 300 130 1 false ∷ model.at TERMINATED 0 1 false ∷ [])
     ∷ weighs 1 3 (0x83 ∷ 0x84 ∷ 0x25 ∷ 0x82 ∷ []) (Ok tt)
     ∷ holds 1 3 (0x83 ∷ 0x84 ∷ 0x25 ∷ 0x82 ∷ []) (1 ∷ 1 ∷ 1 ∷ [])
     ∷ writes 1 (run 0 128) (ones 128) (0x88 ∷ 0x7F ∷ 0 ∷ 0 ∷ 0 ∷ 0x40 ∷ 0 ∷ 0 ∷ 0 ∷ [])
@@ -131,16 +132,19 @@ table =
     ∷ writes 0 (run 1 128) (ones 128) (0x85 ∷ 0x80 ∷ 0 ∷ 0 ∷ 0 ∷ 0x41 ∷ 0x01 ∷ replicate 15 0)
     ∷ writes 0 (run 0 127 ++ (128 ∷ [])) (ones 128) (0x85 ∷ 0x80 ∷ 0 ∷ 0 ∷ 0 ∷ 0x41 ∷ (replicate 15 0 ++ (0x80 ∷ [])))
     ∷ writes 0 (run 0 129) (ones 129) block_and_one
-    ∷ answers_to 0 129 block_and_one (model.seek 128 ∷ []) (model.at 0 1 1 ∷ model.at 128 1 2 ∷ [])
+    ∷ answers_to 0 129 block_and_one (model.seek 128 ∷ []) (model.at 0 1 1 false ∷ model.at 128 1 2 true ∷ [])
     ∷ ends_at 0 129 block_and_one (model.seek 128 ∷ []) 128 1
     ∷ writes 0 (2147483646 ∷ []) (1 ∷ []) largest_id
     ∷ refuses 0 (TERMINATED ∷ []) (1 ∷ []) IdTooLarge
     ∷ answers_to 0 1 largest_id (model.seek 2147483648 ∷ model.seek TERMINATED ∷ [])
-    (model.at 2147483646 1 1 ∷ model.refused TargetTooLarge ∷ model.at TERMINATED 0 1 ∷ [])
+    (model.at 2147483646 1 1 false ∷ model.refused TargetTooLarge ∷ model.at TERMINATED 0 1 false ∷ [])
     ∷ weighs 1 128 (wide 32 512) (Ok tt)
     ∷ weighs 1 128 (wide 33 528) (Err EntryBroken)
     ∷ answers_to 1 0 [] (model.seek 2147483648 ∷ model.step ∷ [])
-    (model.at TERMINATED 0 1 ∷ model.refused TargetTooLarge ∷ model.at TERMINATED 0 1 ∷ [])
+    (model.at TERMINATED 0 1 false ∷ model.refused TargetTooLarge ∷ model.at TERMINATED 0 1 false ∷ [])
     ∷ answers_to 1 3 three (model.seek 301 ∷ model.seek 2147483648 ∷ model.seek TERMINATED ∷ [])
-    (model.at 3 1 1 ∷ model.at TERMINATED 0 1 ∷ model.refused TargetTooLarge ∷ model.at TERMINATED 0 1 ∷ [])
+    (model.at 3 1 1 false ∷ model.at TERMINATED 0 1 false ∷ model.refused TargetTooLarge ∷ model.at TERMINATED 0 1 false ∷ [])
+    ∷ answers_to 1 3 three (model.seek 3 ∷ model.seek 4 ∷ model.seek 7 ∷ model.seek 6 ∷ model.step ∷ model.seek 300 ∷ model.seek TERMINATED ∷ [])
+    (model.at 3 1 1 false ∷ model.at 3 1 1 true ∷ model.at 7 2 1 false ∷ model.at 7 2 1 true ∷ model.at 7 2 1 false ∷ model.at 300 130 1 false
+    ∷ model.at 300 130 1 true ∷ model.at TERMINATED 0 1 false ∷ [])
     ∷ []
