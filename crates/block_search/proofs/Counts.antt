@@ -17,7 +17,7 @@ use Rattle.format.specs.Basics.{choose}
 use Rattle.format.specs.Counts.{count_below}
 use Rattle.block_search.specs.Search.{NeverFalls}
 
-never_falls_tail : (x : ℕ) (xs : List ℕ) → NeverFalls (x ∷ xs) → NeverFalls xs
+pub never_falls_tail : (x : ℕ) (xs : List ℕ) → NeverFalls (x ∷ xs) → NeverFalls xs
 never_falls_tail x xs never i h = rw add-one (rw (add-one (suc i)) at (never (suc i) (omega arith)))
 
 first-least : (xs : List ℕ) → NeverFalls xs → (k : ℕ) → k < length xs → get_or xs 0 0 ≤ get_or xs k 0

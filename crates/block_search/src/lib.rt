@@ -1,9 +1,16 @@
-// The place of a target in a block of 128 ids.
+// The place of a target in a block of 128 ids, and whether it stands there.
 
 #![tactic(auto)]
 
 ghost use Rattle.std.specs.Prelude.{◌≡◌, ◌+◌, ◌*◌, ◌≤◌, ◌<◌};
-ghost use Rattle.block_search.specs.Search.{pivots_below_of, search_block_of, CountsSmaller};
+ghost use Rattle.block_search.specs.Search.{pivots_below_of, search_block_of, stands_at, CountsSmaller, HitsMember};
+
+// Where a target belongs in a block, and whether it stands there.
+#[derive(Clone, Copy, Debug, PartialEq, Eq)]
+pub struct Located {
+    pub place: usize,
+    pub hit: bool,
+}
 
 // Of n segments of step elements each, from base on: how many end on an element below the target. A pivot is such an end.
 // Branchless; unrolled where n is a constant. By places: `skip`, `step_by` and `take` over the array would say it in more words.
@@ -19,14 +26,29 @@ fn pivots_below(arr: &[u32; 128], target: u32, base: usize, step: usize, n: usiz
     count
 }
 
-// The index of the first element that is at least the target, where the elements never fall and the last reaches the target.
+// Whether the target stands at a place; behind the block nothing does.
+#[tactic(auto, unfolding(crate::specs::Search::stands_at))]
+fn stands(arr: &[u32; 128], target: u32, place: usize) -> bool
+    ensures { result ≡ stands_at arr.now target place }
+{
+    place < 128 && arr[place] == target
+}
+
+// The place is the index of the first element that is at least the target, where the elements never fall and the last reaches the
+// target. There the target stands, if it is in such a block at all, so one comparison tells whether it is.
 // An 8-ary search: 128 -> 16 -> 2 by seven pivots each, then a scan of the two elements left, which are pivots at step 1.
-// By hand, since the library's `partition_point` halves, and so finds another place in elements that fall, of which `value` speaks too.
-pub fn search_block(arr: &[u32; 128], target: u32) -> usize
-    ensures value { result ≡ search_block_of arr.now target }
-    ensures counts_smaller { CountsSmaller arr.now target result }
+// By hand, since the library's `partition_point` halves, and so finds another place in elements that fall, of which `place` speaks too.
+pub fn search_block(arr: &[u32; 128], target: u32) -> Located
+    ensures place { result.place ≡ search_block_of arr.now target }
+    ensures hit { result.hit ≡ stands_at arr.now target result.place }
+    ensures counts_smaller { CountsSmaller arr.now target result.place }
+    ensures hits_member { HitsMember arr.now target result.hit }
 {
     let mut base = pivots_below(arr, target, 0, 16, 7) * 16;
     base += pivots_below(arr, target, base, 2, 7) * 2;
-    base + pivots_below(arr, target, base, 1, 2)
+    let place = base + pivots_below(arr, target, base, 1, 2);
+    Located {
+        place,
+        hit: stands(arr, target, place),
+    }
 }
