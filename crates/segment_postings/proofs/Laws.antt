@@ -7,4 +7,5 @@ pub mod LooksAt
 pub mod ReachedBounds
 pub mod ReadQuestions
 pub mod RefusedOpening
+pub mod SeekFinds
 pub mod SeekQuestions

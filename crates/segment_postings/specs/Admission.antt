@@ -1,6 +1,6 @@
 -- A walk by steps over a whole image: what its calls answer, and the first refusal that it meets.
 -- Assumes nothing.
-use Rattle.std.specs.Prelude.{◌≡◌, ℕ, zero, suc, ◌+◌, ◌/◌, ◌<◌, min, List, ◌≢◌, slice_index, slice_index_or, Ok, Err}
+use Rattle.std.specs.Prelude.{◌≡◌, ℕ, zero, suc, ◌+◌, ◌/◌, ◌<◌, min, false, List, ◌≢◌, slice_index, slice_index_or, Ok, Err}
 use Rattle.format.specs.declared.Term.{Term}
 use Rattle.format.specs.Basics.{TERMINATED}
 use Rattle.format.specs.Layout.{full_blocks_of}
@@ -24,6 +24,7 @@ Shows bs t k =
       freq = slice_index freqs k;
       unpacked = k / 128 + 1;
       entries = min (full_blocks_of t) (k / 128 + 1);
+      hit = false;
     })
 
 -- the first refusal of the walk is r

@@ -2,7 +2,8 @@
 -- refused call leaves the cursor, so the next one gets the same again. A call on a lent cursor is the same call: it leaves in the
 -- caller's record what the call by value hands back.
 -- Assumes nothing.
-use Rattle.std.specs.Prelude.{◌≡◌, ℕ, ◌-◌, List, [], ◌∷◌, ◌++◌, length, replicate, Ok, Err}
+use Rattle.std.specs.Prelude.{◌≡◌, ℕ, ◌-◌, Bool, List, [], ◌∷◌, ◌++◌, length, replicate, Ok, Err}
+use mir.Val.{bool_byte}
 use Rattle.format.specs.declared.Term.{Term}
 use Rattle.format.specs.declared.refusal.Refusal.{Refusal}
 use Rattle.format.specs.Refusal.{number_of}
@@ -13,17 +14,18 @@ use Rattle.segment_postings.specs.declared.Answer.{Answer}
 use Rattle.segment_postings.specs.declared.Held.{Held}
 use Rattle.segment_postings.specs.declared.Moved.{Moved}
 use Rattle.segment_postings.specs.declared.SegmentPostings.{SegmentPostings}
-use Rattle.segment_postings.specs.Cursor.{position, answering, opened, stepping, advanced, seeking, sought}
+use Rattle.segment_postings.specs.Cursor.{position, answering, no_hit, opened, stepping, advanced, seeking, hit_of, sought}
 use Rattle.segment_postings.specs.Calls.{cursor_of}
 
--- what the model says of an answer: document, frequency and blocks unpacked
+-- what the model says of an answer: document, frequency, blocks unpacked and the hit
 unfoldable pub shown : Outcome Answer → Shown
-shown (Ok a) = at a.doc a.freq a.unpacked
+shown (Ok a) = at a.doc a.freq a.unpacked a.hit
 shown (Err n) = refused n
 
 -- .. and the answer that says the same, with the entries read
 unfoldable pub with_entries : Shown → ℕ → Outcome Answer
-with_entries (at doc freq unpacked) entries = Ok (record { doc = doc; freq = freq; unpacked = unpacked; entries = entries })
+with_entries (at doc freq unpacked hit) entries =
+    Ok (record { doc = doc; freq = freq; unpacked = unpacked; entries = entries; hit = hit })
 with_entries (refused n) entries = Err n
 
 -- where a call comes to, as the contracts of `advance_in` and `seek_in` say it
@@ -31,6 +33,12 @@ unfoldable pub reaching : SegmentPostings → List ℕ → Term → Call → Out
 unfolding stepping seeking
 reaching c bs t step = stepping c bs t
 reaching c bs t (seek target) = seeking c bs t target
+
+-- .. whether its target is the document there: a step has none
+unfoldable pub hit_by : Term → Call → SegmentPostings → Bool
+unfolding hit_of
+hit_by t step = no_hit
+hit_by t (seek target) = hit_of t target
 
 -- .. and what it hands back, as those of `advance` and `seek` say it
 unfoldable pub called : SegmentPostings → List ℕ → Term → Call → Moved
@@ -59,15 +67,15 @@ cursor_after bs t c (call ∷ cs) = cursor_after bs t (called c bs t call).curso
 
 -- how many numbers an answer is, and the place of the entries read among them
 abbrev pub answer_length : ℕ
-answer_length = 5
+answer_length = 6
 
 abbrev pub entries_place : ℕ
 entries_place = 4
 
--- the number and the values of each case of an answer, in order: 0, document, frequency, blocks unpacked, entries read; or a refusal's
--- number and zeros
+-- the number and the values of each case of an answer, in order: 0, document, frequency, blocks unpacked, entries read, and 1 for a hit or 0; or
+-- a refusal's number and zeros
 unfoldable pub numbers : Outcome Answer → List ℕ
-numbers (Ok a) = 0 ∷ a.doc ∷ a.freq ∷ a.unpacked ∷ a.entries ∷ []
+numbers (Ok a) = 0 ∷ a.doc ∷ a.freq ∷ a.unpacked ∷ a.entries ∷ bool_byte a.hit ∷ []
 numbers (Err r) = number_of r ∷ replicate (answer_length - 1) 0
 
 -- the same of a number that was asked for: 0 and the number, or a refusal's number and 0
@@ -106,9 +114,14 @@ pub record Counts (t : Term) (c : SegmentPostings) (m : State) : Type 0 where
   pub unpacked_visited : c.held.unpacked ≡ length m.visited
   pub entries_are : c.held.entries ≡ entries_read t.count m.position
 
--- a call on lent arrays beside the call by value on the cursor `was`, which gives m
-pub record SameCall (t : Term) (was : SegmentPostings) (m : Moved) (docs freqs docs' freqs' : List ℕ) (r : Outcome Held) : Type 0 where
+-- what `answer_at` answers, with the hit that a call on lent arrays told beside
+unfoldable pub with_hit : Bool → Outcome Answer → Outcome Answer
+with_hit hit (Ok a) = Ok (record { doc = a.doc; freq = a.freq; unpacked = a.unpacked; entries = a.entries; hit = hit })
+with_hit hit (Err n) = Err n
+
+-- a call on lent arrays, with the hit that it tells of where it came to, beside the call by value on the cursor `was`, which gives m
+pub record SameCall (t : Term) (hit : SegmentPostings → Bool) (was : SegmentPostings) (m : Moved) (docs freqs docs' freqs' : List ℕ) (r : Outcome Held) : Type 0 where
   pub came : {held : Held} → r ≡ Ok held
-      → m ≡ record { answer = answering t (cursor_of held docs' freqs'); cursor = cursor_of held docs' freqs' }
+      → (let c : SegmentPostings = cursor_of held docs' freqs' in m ≡ record { answer = with_hit (hit c) (answering t c); cursor = c })
   pub stayed : {why : Refusal} → r ≡ Err why
       → (m ≡ record { answer = Err why; cursor = was }) × (docs' ≡ docs) × (freqs' ≡ freqs)

@@ -3,12 +3,15 @@
 use Rattle.std.specs.Prelude.{◌≡◌, ℕ, ◌+◌, ◌-◌, ◌/◌, List, [], length, take, drop, ◌==◌, nat_le, Ok, Err, Option, None, Some}
 use Rattle.format.specs.Basics.{Outcome, ask, choose, or_before}
 use Rattle.format.specs.declared.refusal.Refusal.TheVariants.{SkipLengthBroken}
+use Rattle.format.specs.declared.Term.{Term}
 use Rattle.format.specs.Vint.{skip_length}
 use Rattle.segment_postings.specs.declared.Answer.{Answer}
 use Rattle.segment_postings.specs.declared.Moved.{Moved}
 use Rattle.segment_postings.specs.declared.SegmentPostings.{SegmentPostings}
 use Rattle.segment_postings.specs.declared.Held.{Held}
+use Rattle.segment_postings.specs.declared.Sought.{Sought}
 use Rattle.segment_postings.specs.declared.layout.Split.{Split}
+use Rattle.segment_postings.specs.Cursor.{hit_of}
 
 -- ---- the split: the skip bytes and the posting bytes as parts of the image; question 3 alone is asked
 
@@ -63,3 +66,12 @@ pub record Reaches (o : Outcome SegmentPostings) (docs freqs docs' freqs' : List
   pub answer : r ≡ reached o
   pub docs_after : docs' ≡ or_before (λ c. c.docs) o docs
   pub freqs_after : freqs' ≡ or_before (λ c. c.freqs) o freqs
+
+-- .. of a seek, which says besides whether the target is the document there
+unfoldable pub without_hit : Outcome Sought → Outcome Held
+without_hit (Ok s) = Ok s.held
+without_hit (Err n) = Err n
+
+pub record Finds (t : Term) (target : ℕ) (o : Outcome SegmentPostings) (docs freqs docs' freqs' : List ℕ) (r : Outcome Sought) : Type 0 where
+  pub reaches : Reaches o docs freqs docs' freqs' (without_hit r)
+  pub hit_there : {s : Sought} → r ≡ Ok s → s.hit ≡ hit_of t target (cursor_of s.held docs' freqs')

@@ -1,12 +1,12 @@
 -- The calls on a cursor: what each answers and leaves, on every input.
 -- Assumes nothing.
 use Rattle.format.specs.declared.refusal.Refusal.TheVariants.{EntryBroken, TargetTooLarge, StateBroken}
-use Rattle.std.specs.Prelude.{ℕ, ◌+◌, ◌*◌, min, Bool, ◌&&◌ as and, ◌||◌ as or, List, length, replicate, ◌==◌, nat_le, nat_lt, slice_index, Ok, Err}
+use Rattle.std.specs.Prelude.{ℕ, ◌+◌, ◌*◌, min, Bool, false, ◌&&◌ as and, ◌||◌ as or, List, length, replicate, ◌==◌, nat_le, nat_lt, slice_index, Ok, Err}
 use Rattle.format.specs.declared.Layout.{Layout}
 use Rattle.format.specs.declared.Term.{Term}
 use Rattle.format.specs.Basics.{Outcome, and_then, ask, choose, TERMINATED}
 use Rattle.format.specs.Layout.{layout, full_blocks_of}
-use Rattle.block_search.specs.Search.{search_block_of}
+use Rattle.block_search.specs.Search.{search_block_of, stands_at}
 use Rattle.segment_postings.specs.declared.SegmentPostings.{SegmentPostings}
 use Rattle.segment_postings.specs.declared.Answer.{Answer}
 use Rattle.segment_postings.specs.declared.Held.{Held}
@@ -29,25 +29,35 @@ in_bounds_of t size h =
     (and (nat_le h.unpacked (h.block + 1))
     (nat_le h.entries (min (h.block + 1) (full_blocks_of t)))))))
 
--- the document and the frequency at the position, at the end TERMINATED and 0
-unfoldable pub answer_at_of : Term → SegmentPostings → Answer
+-- the document and the frequency at the position, at the end TERMINATED and 0, with the hit that a call tells
+unfoldable pub answer_at_of : Term → (hit : Bool) → SegmentPostings → Answer
 unfolding choose position
-answer_at_of t c =
+answer_at_of t hit c =
     let h : Held = c.held in
     choose (position h == t.count)
-    (λ _. record { doc = TERMINATED; freq = 0; unpacked = h.unpacked; entries = h.entries })
-    (λ _. record { doc = slice_index c.docs h.place; freq = slice_index c.freqs h.place; unpacked = h.unpacked; entries = h.entries })
+    (λ _. record { doc = TERMINATED; freq = 0; unpacked = h.unpacked; entries = h.entries; hit = hit })
+    (λ _. record {
+      doc = slice_index c.docs h.place;
+      freq = slice_index c.freqs h.place;
+      unpacked = h.unpacked;
+      entries = h.entries;
+      hit = hit;
+    })
 
--- .. as a call of its own answers it, of any numbers: 16 for a place that no block has
+-- .. as a call of its own answers it, of any numbers: 16 for a place that no block has. It has no target, so no hit
 unfoldable pub answering : Term → SegmentPostings → Outcome Answer
 unfolding ask answer_at_of
-answering t c = ask (nat_lt c.held.place 128) StateBroken λ _. Ok (answer_at_of t c)
+answering t c = ask (nat_lt c.held.place 128) StateBroken λ _. Ok (answer_at_of t false c)
 
--- an outcome with its answer; a refused call leaves the cursor as it was
-unfoldable pub moved : Term → SegmentPostings → Outcome SegmentPostings → Moved
+-- the hit of a call without a target
+abbrev pub no_hit : SegmentPostings → Bool
+no_hit c = false
+
+-- an outcome with its answer, and the hit there; a refused call leaves the cursor as it was
+unfoldable pub moved : Term → SegmentPostings → (hit : SegmentPostings → Bool) → Outcome SegmentPostings → Moved
 unfolding answer_at_of
-moved t before (Ok c) = record { answer = Ok (answer_at_of t c); cursor = c }
-moved t before (Err n) = record { answer = Err n; cursor = before }
+moved t before hit (Ok c) = record { answer = Ok (answer_at_of t (hit c) c); cursor = c }
+moved t before hit (Err n) = record { answer = Err n; cursor = before }
 
 -- an opened block starts as 128 places holding TERMINATED, with frequency 1; a refused opening leaves it so, at none of the places: every
 -- call on it is refused (16)
@@ -65,7 +75,7 @@ opening bs t = and_then (layout t bs) λ l. landing t bs l 0 (first_start_of l)
 
 unfoldable pub opened : List ℕ → Term → Moved
 unfolding moved blank opening
-opened bs t = moved t blank (opening bs t)
+opened bs t = moved t blank no_hit (opening bs t)
 
 -- the place p of the held block: the numbers there, and the cursor
 abbrev pub held_at : Held → ℕ → Held
@@ -121,7 +131,7 @@ stepping c bs t =
 
 unfoldable pub advanced : SegmentPostings → List ℕ → Term → Moved
 unfolding moved stepping
-advanced c bs t = moved t c (stepping c bs t)
+advanced c bs t = moved t c no_hit (stepping c bs t)
 
 -- what stands at the position among 128 values, as a call of its own: 16; at the end `end`
 unfoldable pub value_at : List ℕ → ℕ → Held → List ℕ → Term → Outcome ℕ
@@ -181,9 +191,15 @@ seeking c bs t target =
     choose (nat_le target (slice_index c.docs c.held.place)) (λ _. Ok c) λ _.
     choose (nat_le target c.held.last_doc) (λ _. within c t target) (λ _. behind c bs t target)
 
+-- whether the target is the document at the position (document 02, Ask 2): at the end there is none, whatever the held values are, so
+-- that TERMINATED never is
+unfoldable pub hit_of : Term → ℕ → SegmentPostings → Bool
+unfolding choose position stands_at
+hit_of t target c = choose (position c.held == t.count) (λ _. false) (λ _. stands_at c.docs target c.held.place)
+
 unfoldable pub sought : SegmentPostings → List ℕ → Term → ℕ → Moved
-unfolding moved seeking
-sought c bs t target = moved t c (seeking c bs t target)
+unfolding moved seeking hit_of
+sought c bs t target = moved t c (hit_of t target) (seeking c bs t target)
 
 -- a fresh cursor that seeks once
 unfoldable pub seeking_fresh : List ℕ → Term → ℕ → Outcome SegmentPostings

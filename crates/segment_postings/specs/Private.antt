@@ -1,6 +1,6 @@
 -- What the private functions below the calls want and leave.
 -- Assumes nothing.
-use Rattle.std.specs.Prelude.{◌≡◌, ℕ, ◌+◌, ◌≤◌, Bool, List, length, drop, Ok, Err}
+use Rattle.std.specs.Prelude.{◌≡◌, ℕ, ◌+◌, ◌≤◌, Bool, false, List, length, drop, Ok, Err}
 use Rattle.format.specs.declared.Layout.{Layout}
 use Rattle.format.specs.declared.Term.{Term}
 use Rattle.format.specs.Basics.{Outcome, and_then, TERMINATED}
@@ -10,6 +10,7 @@ use Rattle.format.specs.Layout.{full_blocks_of}
 use Rattle.format.specs.Reading.{Block, kept_by}
 use Rattle.segment_postings.specs.declared.Held.{Held}
 use Rattle.segment_postings.specs.declared.SegmentPostings.{SegmentPostings}
+use Rattle.segment_postings.specs.declared.Sought.{Sought}
 use Rattle.segment_postings.specs.declared.find.Found.{Found}
 use Rattle.segment_postings.specs.declared.find.Start.{Start}
 use Rattle.segment_postings.specs.declared.load.Loaded.{Loaded}
@@ -17,7 +18,7 @@ use Rattle.segment_postings.specs.declared.seeks.Call.{Call as Asked}
 use Rattle.segment_postings.specs.declared.seeks.Call.TheVariants.{Advance, Seek}
 use Rattle.segment_postings.specs.declared.seeks.Went.{Went}
 use Rattle.segment_postings.specs.Landing.{load_block_of, padded, holding}
-use Rattle.segment_postings.specs.Cursor.{answer_at_of}
+use Rattle.segment_postings.specs.Cursor.{answer_at_of, hit_of}
 use Rattle.segment_postings.specs.Calls.{cursor_of, reached}
 
 -- ---- the block that is found
@@ -62,10 +63,20 @@ pub record Lands (o : Outcome SegmentPostings) (docs freqs : List ℕ) (r : Outc
 
 -- ---- what the calls by value do on their cursor's arrays
 
+-- a cursor's numbers, with whether the target is the document there
+unfoldable pub told_of : Term → ℕ → SegmentPostings → Sought
+unfolding hit_of
+told_of t target c = record { held = c.held; hit = hit_of t target c }
+
+-- where a call without a target came to: no hit
+unfoldable pub untargeted_of : Outcome Held → Outcome Sought
+untargeted_of (Ok held) = Ok (record { held = held; hit = false })
+untargeted_of (Err n) = Err n
+
 -- where a call on two arrays came to, with its answer; a refusal leaves the numbers as they were
-unfoldable pub with_answer_of : Term → (was : Held) → (docs freqs : List ℕ) → Outcome Held → Went
+unfoldable pub with_answer_of : Term → (was : Held) → (docs freqs : List ℕ) → Outcome Sought → Went
 unfolding answer_at_of
-with_answer_of t was docs freqs (Ok held) = record { answer = Ok (answer_at_of t (cursor_of held docs freqs)); held = held }
+with_answer_of t was docs freqs (Ok s) = record { answer = Ok (answer_at_of t s.hit (cursor_of s.held docs freqs)); held = s.held }
 with_answer_of t was docs freqs (Err n) = record { answer = Err n; held = was }
 
 -- the call that `go` makes: a step, or a seek to the target

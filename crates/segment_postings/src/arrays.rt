@@ -10,7 +10,7 @@ ghost use Rattle.segment_postings.specs.Private.{FindsFrom, loaded, Lands};
 use crate::find::Start;
 use crate::layout::{LaidImage, full_blocks, lay_out};
 use crate::load::FoundBlock;
-use crate::{Answer, Held};
+use crate::{Answer, Held, Sought};
 use format::{COMPRESSION_BLOCK_SIZE, Refusal, TERMINATED, Term};
 use skip::block_size;
 
@@ -71,18 +71,20 @@ impl Held {
     }
 }
 
-// The document and the frequency at the position, for a place of a block; at the end TERMINATED and 0.
+// The document and the frequency at the position, for a place of a block, with the hit told; at the end TERMINATED and 0.
 #[tactic(auto, unfolding(crate::specs::Cursor::answer_at_of, format::specs::Basics::choose))]
-pub(crate) fn shown_at(held: Held, term: Term, docs: &[u32; 128], freqs: &[u32; 128]) -> Answer
-    requires { held.place < 128 }
-    ensures { result ≡ answer_at_of term (cursor_of held docs.now freqs.now) }
+pub(crate) fn shown_at(sought: Sought, term: Term, docs: &[u32; 128], freqs: &[u32; 128]) -> Answer
+    requires { sought.held.place < 128 }
+    ensures { result ≡ answer_at_of term sought.hit (cursor_of sought.held docs.now freqs.now) }
 {
+    let Sought { held, hit } = sought;
     if held.at_end(term) {
         return Answer {
             doc: TERMINATED,
             freq: 0,
             unpacked: held.unpacked,
             entries: held.entries,
+            hit,
         };
     }
     let place = held.place;
@@ -91,10 +93,11 @@ pub(crate) fn shown_at(held: Held, term: Term, docs: &[u32; 128], freqs: &[u32; 
         freq: freqs[place],
         unpacked: held.unpacked,
         entries: held.entries,
+        hit,
     }
 }
 
-// The same for any place: one that no block has is refused (16).
+// The same for any place: one that no block has is refused (16). It has no target, so no hit: `seek_in` told it.
 pub fn answer_at(
     held: Held,
     term: Term,
@@ -106,7 +109,7 @@ pub fn answer_at(
     if COMPRESSION_BLOCK_SIZE <= held.place {
         return Err(Refusal::StateBroken);
     }
-    Ok(shown_at(held, term, docs, freqs))
+    Ok(shown_at(Sought { held, hit: false }, term, docs, freqs))
 }
 
 // Two arrays are lent, here and above: the calls on lent arrays have them so (document 01), and a struct of both would only be filled from them

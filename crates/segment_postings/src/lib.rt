@@ -46,13 +46,22 @@ pub struct Held {
     pub entries: usize,
 }
 
-// What a call answers: the document and the frequency at the position, blocks unpacked and entries read.
+// Where a seek on two lent arrays came to, and whether its target is the document there. At the end it isn't.
+#[derive(Clone, Copy, Debug, PartialEq, Eq)]
+pub struct Sought {
+    pub held: Held,
+    pub hit: bool,
+}
+
+// What a call answers: the document and the frequency at the position, blocks unpacked, entries read, and of a seek whether its target is
+// the document there. Opening and a step have no target: no.
 #[derive(Clone, Copy, Debug, PartialEq, Eq)]
 pub struct Answer {
     pub doc: u32,
     pub freq: u32,
     pub unpacked: usize,
     pub entries: usize,
+    pub hit: bool,
 }
 
 // A call's answer, with the cursor after it, which a refusal leaves as it was. Such pairs are structs of their own (`Went`, the writer's `Step`):

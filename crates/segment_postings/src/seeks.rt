@@ -1,23 +1,37 @@
 // Seeks, on two lent arrays and by value; what a seek and a step by value share; and the rank, which a fresh cursor's seek finds.
 
 ghost use Rattle.std.specs.Prelude.{Ok, ◌≡◌, ℕ, ◌/◌, ◌<◌, ◌≤◌, true, List, length};
-ghost use Rattle.segment_postings.specs.Cursor.{in_bounds_of, within, behind, seeking, sought, seeking_fresh, ranking};
+ghost use Rattle.block_search.specs.Search.{search_block_of};
+ghost use Rattle.segment_postings.specs.Cursor.{in_bounds_of, at_place, within, behind, seeking, sought, seeking_fresh, ranking};
 ghost use Rattle.segment_postings.specs.Called.{called};
-ghost use Rattle.segment_postings.specs.Calls.{cursor_of, Leaves, reached, Reaches};
-ghost use Rattle.segment_postings.specs.Private.{call_by, with_answer_of};
+ghost use Rattle.segment_postings.specs.Calls.{cursor_of, Leaves, reached, Finds};
+ghost use Rattle.segment_postings.specs.Private.{call_by, told_of, untargeted_of, with_answer_of};
 
 use crate::arrays::{advance_in, land_first, leave_whole, shown_at};
 use crate::layout::full_blocks;
-use crate::{Answer, Held, Moved, SegmentPostings};
-use block_search::search_block;
+use crate::{Answer, Held, Moved, SegmentPostings, Sought};
+use block_search::{Located, search_block};
 use format::{COMPRESSION_BLOCK_SIZE, Refusal, TERMINATED, Term};
 
-// Seeks in the held block. Values that fit no image may have no place for the target behind the present one: 16.
-fn seek_within(held: Held, term: Term, target: u32, docs: &[u32; 128]) -> Result<Held, Refusal>
-    requires { held.block ≤ term.count / 128 }
-    ensures { (freqs : List ℕ) → Reaches (within (cursor_of held docs.now freqs) term target) docs.now freqs docs.now freqs result }
+// The target's place in the held block, and whether the target stands there: at the end it doesn't, whatever the array holds.
+fn place_in(held: Held, term: Term, target: u32, docs: &[u32; 128]) -> Sought
+    ensures { (freqs : List ℕ) → result ≡ told_of term target (at_place (cursor_of held docs.now freqs) (search_block_of docs.now target)) }
 {
-    let place = search_block(docs, target);
+    let Located { place, hit } = search_block(docs, target);
+    let there = held.at_place(place);
+    Sought {
+        held: there,
+        hit: hit && !there.at_end(term),
+    }
+}
+
+// Seeks in the held block. Values that fit no image may have no place for the target behind the present one: 16.
+fn seek_within(held: Held, term: Term, target: u32, docs: &[u32; 128]) -> Result<Sought, Refusal>
+    requires { held.block ≤ term.count / 128 }
+    ensures { (freqs : List ℕ) → Finds term target (within (cursor_of held docs.now freqs) term target) docs.now freqs docs.now freqs result }
+{
+    let sought = place_in(held, term, target, docs);
+    let place = sought.held.place;
     let there = held.place < place
         && place < COMPRESSION_BLOCK_SIZE
         && target <= docs[place]
@@ -25,7 +39,7 @@ fn seek_within(held: Held, term: Term, target: u32, docs: &[u32; 128]) -> Result
     if !there {
         return Err(Refusal::StateBroken);
     }
-    Ok(held.at_place(place))
+    Ok(sought)
 }
 
 // Seeks behind the held block: the block that the entries lead to, and the target's place in it. Values that fit no image may give the
@@ -37,19 +51,19 @@ fn seek_behind(
     target: u32,
     docs: &mut [u32; 128],
     freqs: &mut [u32; 128],
-) -> Result<Held, Refusal>
+) -> Result<Sought, Refusal>
     requires { in_bounds_of term (length image.now) held ≡ true }
-    ensures { Reaches (behind (cursor_of held docs.old freqs.old) image.now term target) docs.old freqs.old docs.new freqs.new result }
+    ensures { Finds term target (behind (cursor_of held docs.old freqs.old) image.now term target) docs.old freqs.old docs.new freqs.new result }
 {
     if full_blocks(term.count) <= held.block {
         return Err(Refusal::StateBroken);
     }
     let landed = leave_whole(held, image, term, target, docs, freqs)?;
-    Ok(landed.at_place(search_block(docs, target)))
+    Ok(place_in(landed, term, target, docs))
 }
 
-// Seeks to the first document, not before the present one, that is at least the target; if there is none, to the end. A target above
-// TERMINATED is 10, at the end too; any other changes nothing there.
+// Seeks to the first document, not before the present one, that is at least the target; if there is none, to the end; and tells whether that
+// document is the target. A target above TERMINATED is 10, at the end too; any other changes nothing there.
 pub fn seek_in(
     held: Held,
     image: &[u8],
@@ -57,8 +71,8 @@ pub fn seek_in(
     target: u32,
     docs: &mut [u32; 128],
     freqs: &mut [u32; 128],
-) -> Result<Held, Refusal>
-    ensures { Reaches (seeking (cursor_of held docs.old freqs.old) image.now term target) docs.old freqs.old docs.new freqs.new result }
+) -> Result<Sought, Refusal>
+    ensures { Finds term target (seeking (cursor_of held docs.old freqs.old) image.now term target) docs.old freqs.old docs.new freqs.new result }
 {
     if !held.in_bounds(term, image.len()) {
         return Err(Refusal::StateBroken);
@@ -67,10 +81,14 @@ pub fn seek_in(
         return Err(Refusal::TargetTooLarge);
     }
     if held.at_end(term) {
-        return Ok(held);
+        return Ok(Sought { held, hit: false });
     }
-    if target <= docs[held.place] {
-        return Ok(held);
+    let doc = docs[held.place];
+    if target <= doc {
+        return Ok(Sought {
+            held,
+            hit: doc == target,
+        });
     }
     if target <= held.last_doc {
         return seek_within(held, term, target, docs);
@@ -85,22 +103,33 @@ pub(crate) struct Went {
     pub held: Held,
 }
 
+// Where a call without a target came to: no hit.
+#[tactic(auto, unfolding(crate::specs::Private::untargeted_of))]
+pub(crate) fn untargeted(reached: Result<Held, Refusal>) -> Result<Sought, Refusal>
+    ensures { result ≡ untargeted_of reached }
+{
+    match reached {
+        Ok(held) => Ok(Sought { held, hit: false }),
+        Err(refusal) => Err(refusal),
+    }
+}
+
 // Where a call on lent arrays came to, with its answer; a refusal leaves the numbers as they were.
 #[tactic(auto, unfolding(crate::specs::Private::with_answer_of))]
 pub(crate) fn with_answer(
-    reached: Result<Held, Refusal>,
+    reached: Result<Sought, Refusal>,
     was: Held,
     term: Term,
     docs: &[u32; 128],
     freqs: &[u32; 128],
 ) -> Went
-    requires { (held : Held) → reached ≡ Ok held → held.place < 128 }
+    requires { (sought : Sought) → reached ≡ Ok sought → sought.held.place < 128 }
     ensures { result ≡ with_answer_of term was docs.now freqs.now reached }
 {
     match reached {
-        Ok(held) => Went {
-            answer: Ok(shown_at(held, term, docs, freqs)),
-            held,
+        Ok(sought) => Went {
+            answer: Ok(shown_at(sought, term, docs, freqs)),
+            held: sought.held,
         },
         Err(refusal) => Went {
             answer: Err(refusal),
@@ -130,7 +159,7 @@ pub(crate) fn go(
     ensures { Leaves (called (cursor_of held docs.old freqs.old) image.now term (call_by call)) result.answer (cursor_of result.held docs.new freqs.new) }
 {
     let reached = match call {
-        Call::Advance => advance_in(held, image, term, docs, freqs),
+        Call::Advance => untargeted(advance_in(held, image, term, docs, freqs)),
         Call::Seek(target) => seek_in(held, image, term, target, docs, freqs),
     };
     with_answer(reached, held, term, docs, freqs)
@@ -164,7 +193,8 @@ fn seek_fresh(image: &[u8], term: Term, target: u32) -> Result<Held, Refusal>
     let mut docs = [0; 128];
     let mut freqs = [0; 128];
     let first = land_first(image, term, &mut docs, &mut freqs)?;
-    seek_in(first, image, term, target, &mut docs, &mut freqs)
+    let sought = seek_in(first, image, term, target, &mut docs, &mut freqs)?;
+    Ok(sought.held)
 }
 
 // How many documents lie below the target.

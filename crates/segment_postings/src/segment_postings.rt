@@ -4,7 +4,7 @@ ghost use Rattle.std.specs.Prelude.{◌≡◌};
 ghost use Rattle.segment_postings.specs.Cursor.{blank, opened, advanced, value_at, doc_at, freq_at};
 
 use crate::arrays::open_in;
-use crate::seeks::{Call, Went, go, with_answer};
+use crate::seeks::{Call, Went, go, untargeted, with_answer};
 use crate::{Held, Moved, SegmentPostings};
 use format::{COMPRESSION_BLOCK_SIZE, Refusal, TERMINATED, Term};
 
@@ -35,7 +35,7 @@ pub fn open(image: &[u8], term: Term) -> Moved
     let blank = blank();
     let mut docs = blank.docs;
     let mut freqs = blank.freqs;
-    let reached = open_in(image, term, &mut docs, &mut freqs);
+    let reached = untargeted(open_in(image, term, &mut docs, &mut freqs));
     let Went { answer, held } = with_answer(reached, blank.held, term, &docs, &freqs);
     Moved {
         answer,

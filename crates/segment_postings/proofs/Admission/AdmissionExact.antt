@@ -5,7 +5,7 @@
 -- refusal (WalkByCalls.antt).
 -- Assumes nothing.
 use Rattle.format.specs.declared.refusal.Refusal.{Refusal}
-use Rattle.std.specs.Prelude.{◌≡◌, ℕ, suc, ◌+◌, ◌<◌, ◌≤◌, ◌⊎◌, ◌↔◌, List, length, Ok, Err}
+use Rattle.std.specs.Prelude.{◌≡◌, ℕ, suc, ◌+◌, ◌<◌, ◌≤◌, ◌⊎◌, ◌↔◌, false, List, length, Ok, Err}
 use mathlib.Core.Logic.{inl, inr, ⊎_elim}
 use mathlib.Core.Path.{refl, sym, ap, subst, ◌∙◌}
 use native.Mathlib.Nat.{eq-or-lt_of_le}
@@ -19,7 +19,7 @@ use Rattle.format.proofs.Opened.{soundness-is}
 use Rattle.format.proofs.Outcome.{refused≢ok}
 use Rattle.segment_postings.specs.declared.Moved.{Moved}
 use Rattle.segment_postings.specs.declared.SegmentPostings.{SegmentPostings}
-use Rattle.segment_postings.specs.Cursor.{moved, blank, opening}
+use Rattle.segment_postings.specs.Cursor.{no_hit, moved, blank, opening}
 use Rattle.segment_postings.specs.Admission.{walk_at, Shows, Meets, MeetsNone}
 use Rattle.segment_postings.proofs.Simulation.CallsSimulate.{moved-refused}
 use Rattle.segment_postings.proofs.Admission.WalkByCalls.{walk_at-first, unopened, Met, Comes, stands, met, stands-shows, stands-ends, met-is, comes}
@@ -41,7 +41,7 @@ module _ (bs : List ℕ) (t : Term) where
       let p = unopened bs t e in (
         ap (λ (r : Reading). length (docs_of r.blocks)) p,
         ap (λ (r : Reading). r.verdict) p,
-        ap (λ (m : Moved). m.answer) (walk_at-first bs t ∙ ap (moved t blank) e ∙ moved-refused t blank _),
+        ap (λ (m : Moved). m.answer) (walk_at-first bs t ∙ ap (moved t blank no_hit) e ∙ moved-refused t blank no_hit _),
       )
 
   opens-or-not : ((c : SegmentPostings) × (opening bs t ≡ Ok c)) ⊎ ((r : Refusal) × (opening bs t ≡ Err r))
@@ -106,7 +106,7 @@ module _ (bs : List ℕ) (t : Term) where
 
   -- call k is at the end, with all blocks unpacked and all entries read
   abbrev Ends : ℕ → Type 0
-  Ends k = (walk_at bs t k).answer ≡ Ok (record { doc = TERMINATED; freq = 0; unpacked = full_blocks_of t + 1; entries = full_blocks_of t })
+  Ends k = (walk_at bs t k).answer ≡ Ok (record { doc = TERMINATED; freq = 0; unpacked = full_blocks_of t + 1; entries = full_blocks_of t; hit = false })
 
   ends_at : {k : ℕ} → verdict ≡ Ok tt → Comes bs t k → length docs ≤ k → Ends k
   ends_at {k} none (stands s) h = elim (dec_le t.count k) [

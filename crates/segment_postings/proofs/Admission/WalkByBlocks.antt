@@ -4,7 +4,7 @@
 -- brings the walk on, or is refused by the question that ends the reading.
 -- Assumes nothing.
 use Rattle.format.specs.declared.refusal.Refusal.{Refusal}
-use Rattle.std.specs.Prelude.{◌≡◌, ℕ, ◌+◌, ◌*◌, ◌<◌, ◌≤◌, min, true, List, [], ◌∷◌, ◌++◌, length, get_or, Ok, Err}
+use Rattle.std.specs.Prelude.{◌≡◌, ℕ, ◌+◌, ◌*◌, ◌<◌, ◌≤◌, min, true, false, List, [], ◌∷◌, ◌++◌, length, get_or, Ok, Err}
 use mathlib.Core.List.{append_assoc, append-nil}
 use mathlib.Core.Path.{refl, sym, ap, ◌∙◌}
 use native.Mathlib.Decide.{dec_le}
@@ -204,12 +204,13 @@ module _ (t : Term) (bs : List ℕ) (l : Layout) (laid : layout t bs ≡ Ok l) w
       here = at_place d p
 
       pub answer-here : 128 * b + p < t.count
-          → answer_at_of t here
+          → answer_at_of t false here
           ≡ record {
             doc = get_or docs (128 * b + p) TERMINATED;
             freq = get_or freqs (128 * b + p) 0;
             unpacked = b + 1;
             entries = min (full_blocks_of t) (b + 1);
+            hit = false;
           }
       unfolding choose position at_place
       answer-here h =
@@ -225,7 +226,7 @@ module _ (t : Term) (bs : List ℕ) (l : Layout) (laid : layout t bs ≡ Ok l) w
           )
 
       pub answer-end : 128 * b + p ≡ t.count
-          → answer_at_of t here ≡ record { doc = TERMINATED; freq = 0; unpacked = b + 1; entries = min (full_blocks_of t) (b + 1) }
+          → answer_at_of t false here ≡ record { doc = TERMINATED; freq = 0; unpacked = b + 1; entries = min (full_blocks_of t) (b + 1); hit = false }
       unfolding choose position at_place
       answer-end e = rw (answer_at_of-is, k.block_is, eq-eqb (128 * b + p) t.count e, k.unpacked_is, k.entries_are)
 

@@ -3,7 +3,7 @@
 -- documents that are read; then the cursor stays, and each further step is refused alike. By induction on the calls.
 -- Assumes nothing.
 use Rattle.format.specs.declared.refusal.Refusal.{Refusal}
-use Rattle.std.specs.Prelude.{◌≡◌, ℕ, zero, suc, ◌+◌, ◌*◌, ◌/◌, ◌<◌, ◌≤◌, min, List, ◌∷◌, length, get_or, replicate, Ok, Err}
+use Rattle.std.specs.Prelude.{◌≡◌, ℕ, zero, suc, ◌+◌, ◌*◌, ◌/◌, ◌<◌, ◌≤◌, min, false, List, ◌∷◌, length, get_or, replicate, Ok, Err}
 use mathlib.Core.Path.{refl, sym, ap, ◌∙◌}
 use native.Mathlib.Decide.{dec_le}
 use native.Mathlib.Numerals.{add-one}
@@ -20,7 +20,7 @@ use Rattle.format.proofs.Sound.{whole-count, tail-short}
 use Rattle.segment_postings.specs.declared.Moved.{Moved}
 use Rattle.segment_postings.specs.declared.SegmentPostings.{SegmentPostings}
 use Rattle.segment_postings.specs.Landing.{first_start_of, landing}
-use Rattle.segment_postings.specs.Cursor.{answer_at_of, moved, blank, opening, opened, at_place, stepping}
+use Rattle.segment_postings.specs.Cursor.{answer_at_of, no_hit, moved, blank, opening, opened, at_place, stepping}
 use Rattle.segment_postings.proofs.Admission.LandingReads.{landing-none}
 use Rattle.segment_postings.proofs.Laws.CursorTurns.{moved_ok, opening-is, opened-is, advanced-is}
 use Rattle.segment_postings.specs.Called.{called, calls_from, calls}
@@ -31,11 +31,11 @@ use Rattle.segment_postings.proofs.Admission.WalkByBlocks.{OnBlock, passed_none,
 use Rattle.segment_postings.proofs.Admission.WalkByBlocks.{step-ends, step-goes, step-leaves, passed_on, passed_stops}
 
 module _ (bs : List ℕ) (t : Term) where
-  pub walk_at-first : walk_at bs t zero ≡ moved t blank (opening bs t)
+  pub walk_at-first : walk_at bs t zero ≡ moved t blank no_hit (opening bs t)
   unfolding walk_at
   walk_at-first = opened-is bs t
 
-  walk_at-next : (k : ℕ) → walk_at bs t (suc k) ≡ moved t (walk_at bs t k).cursor (stepping (walk_at bs t k).cursor bs t)
+  walk_at-next : (k : ℕ) → walk_at bs t (suc k) ≡ moved t (walk_at bs t k).cursor no_hit (stepping (walk_at bs t k).cursor bs t)
   unfolding walk_at
   walk_at-next k = advanced-is (walk_at bs t k).cursor bs t
 
@@ -89,7 +89,7 @@ module _ (bs : List ℕ) (t : Term) where
     on : OnBlock t bs l laid block first
     small : place < 128
     there : 128 * block + place ≡ min k t.count
-    is : walk_at bs t k ≡ record { answer = Ok (answer_at_of t (at_place first place)); cursor = at_place first place }
+    is : walk_at bs t k ≡ record { answer = Ok (answer_at_of t false (at_place first place)); cursor = at_place first place }
 
   -- at or behind the last document that is read, and the next step is refused
   pub record Met (r : Refusal) (k : ℕ) : Type 0 where
@@ -102,7 +102,7 @@ module _ (bs : List ℕ) (t : Term) where
     met : {r : Refusal} {k : ℕ} → Met r k → Comes (suc k)
 
   landed_stands : (k : ℕ) {l : Layout} (laid : layout t bs ≡ Ok l) {b : ℕ} {d : SegmentPostings} → OnBlock t bs l laid b d → 128 * b ≡ min k t.count
-      → walk_at bs t k ≡ record { answer = Ok (answer_at_of t d); cursor = d } → OnWalk k
+      → walk_at bs t k ≡ record { answer = Ok (answer_at_of t false d); cursor = d } → OnWalk k
   unfolding at_place
   landed_stands k {l} laid {b} {d} on there is =
       record {
@@ -137,7 +137,7 @@ module _ (bs : List ℕ) (t : Term) where
     inside = omega (arith, s.there)
 
     -- the next call, by what its step comes to
-    next_is : {o : Outcome SegmentPostings} → stepping here bs t ≡ o → walk_at bs t (suc k) ≡ moved t here o
+    next_is : {o : Outcome SegmentPostings} → stepping here bs t ≡ o → walk_at bs t (suc k) ≡ moved t here no_hit o
     next_is e = walk_at-next k ∙ rw (s.is, e)
 
     ends-again : t.count ≤ k → OnWalk (suc k)
@@ -208,6 +208,7 @@ module _ (bs : List ℕ) (t : Term) where
           freq = get_or freqs k 0;
           unpacked = k / 128 + 1;
           entries = min (full_blocks_of t) (k / 128 + 1);
+          hit = false;
         }))
     stands-shows h =
         let at-k : 128 * s.block + s.place ≡ k = omega (arith, s.there) in
@@ -224,7 +225,7 @@ module _ (bs : List ℕ) (t : Term) where
         → (verdict ≡ Ok tt)
         × (length docs ≡ t.count)
         × ((walk_at bs t k).answer
-        ≡ Ok (record { doc = TERMINATED; freq = 0; unpacked = full_blocks_of t + 1; entries = full_blocks_of t }))
+        ≡ Ok (record { doc = TERMINATED; freq = 0; unpacked = full_blocks_of t + 1; entries = full_blocks_of t; hit = false }))
     stands-ends h =
         let at-end : 128 * s.block + s.place ≡ t.count = omega (arith, s.there) in
         let in_tail : s.block ≡ full_blocks_of t = omega (arith, s.small, on.passed.block_most_is, whole-count t, tail-short t) in

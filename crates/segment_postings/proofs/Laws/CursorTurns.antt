@@ -1,7 +1,7 @@
 -- The definitions of the cursor, each opened by one turn, so that a proof sees their parts under their names.
 -- Assumes nothing.
 use Rattle.format.specs.declared.refusal.Refusal.TheVariants.{EntryBroken, TargetTooLarge, StateBroken}
-use Rattle.std.specs.Prelude.{◌≡◌, ℕ, zero, suc, ◌+◌, ◌-◌, ◌*◌, ◌&&◌ as and, eqb, ltb, leb, List, length, get_or, drop, Ok}
+use Rattle.std.specs.Prelude.{◌≡◌, ℕ, zero, suc, ◌+◌, ◌-◌, ◌*◌, Bool, ◌&&◌ as and, eqb, ltb, leb, List, length, get_or, drop, Ok}
 use mathlib.Core.Path.{refl}
 use Rattle.format.specs.declared.BlockInfo.{BlockInfo}
 use Rattle.format.specs.declared.IndexRecordOption.{IndexRecordOption}
@@ -17,7 +17,7 @@ use Rattle.segment_postings.specs.declared.find.Found.{Found}
 use Rattle.segment_postings.specs.declared.find.Start.{Start}
 use Rattle.segment_postings.specs.Landing.{tail_info_of, first_start_of, start_after, find_block_of, load_block_of, holding, landing}
 use Rattle.segment_postings.specs.Cursor.{position, in_bounds_of, answer_at_of}
-use Rattle.segment_postings.specs.Cursor.{moved, blank, opening, opened, at_place, starts_inside_of, start_behind_of, leaving, stepping, advanced, place_of, within, behind, seeking, seeking_fresh}
+use Rattle.segment_postings.specs.Cursor.{no_hit, moved, blank, opening, opened, at_place, starts_inside_of, start_behind_of, leaving, stepping, advanced, place_of, within, behind, seeking, seeking_fresh}
 
 pub find_block_of-zero : (option : IndexRecordOption) (skips bs : List ℕ) (target : ℕ) (s : Start)
     → find_block_of option skips bs target zero s
@@ -51,22 +51,24 @@ pub landing_is : (t : Term) (bs : List ℕ) (l : Layout) (target : ℕ) (s : Sta
 unfolding landing
 landing_is t bs l target s = refl
 
-pub answer_at_of-is : (t : Term) (c : SegmentPostings)
-    → answer_at_of t c
+pub answer_at_of-is : (t : Term) (hit : Bool) (c : SegmentPostings)
+    → answer_at_of t hit c
     ≡ choose (eqb (position c.held) t.count)
-    (λ _. record { doc = TERMINATED; freq = 0; unpacked = c.held.unpacked; entries = c.held.entries })
+    (λ _. record { doc = TERMINATED; freq = 0; unpacked = c.held.unpacked; entries = c.held.entries; hit = hit })
     (λ _. record {
       doc = get_or c.docs c.held.place 0;
       freq = get_or c.freqs c.held.place 0;
       unpacked = c.held.unpacked;
       entries = c.held.entries;
+      hit = hit;
     })
 unfolding answer_at_of
-answer_at_of-is t c = refl
+answer_at_of-is t hit c = refl
 
-pub moved_ok : (t : Term) (before c : SegmentPostings) → moved t before (Ok c) ≡ record { answer = Ok (answer_at_of t c); cursor = c }
+pub moved_ok : (t : Term) (before : SegmentPostings) (hit : SegmentPostings → Bool) (c : SegmentPostings)
+    → moved t before hit (Ok c) ≡ record { answer = Ok (answer_at_of t (hit c) c); cursor = c }
 unfolding moved
-moved_ok t before c = refl
+moved_ok t before hit c = refl
 
 pub opening-is : (bs : List ℕ) (t : Term)
     → opening bs t ≡ and_then (layout t bs) λ l. landing t bs l 0 (first_start_of l)
@@ -90,11 +92,11 @@ pub stepping-is : (c : SegmentPostings) (bs : List ℕ) (t : Term)
 unfolding stepping
 stepping-is c bs t = refl
 
-pub opened-is : (bs : List ℕ) (t : Term) → opened bs t ≡ moved t blank (opening bs t)
+pub opened-is : (bs : List ℕ) (t : Term) → opened bs t ≡ moved t blank no_hit (opening bs t)
 unfolding opened
 opened-is bs t = refl
 
-pub advanced-is : (c : SegmentPostings) (bs : List ℕ) (t : Term) → advanced c bs t ≡ moved t c (stepping c bs t)
+pub advanced-is : (c : SegmentPostings) (bs : List ℕ) (t : Term) → advanced c bs t ≡ moved t c no_hit (stepping c bs t)
 unfolding advanced
 advanced-is c bs t = refl
 

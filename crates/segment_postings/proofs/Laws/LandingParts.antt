@@ -23,10 +23,10 @@ use Rattle.segment_postings.specs.declared.find.Start.{Start}
 use Rattle.segment_postings.specs.declared.Held.{Held}
 use Rattle.segment_postings.specs.declared.SegmentPostings.{SegmentPostings}
 use Rattle.segment_postings.specs.declared.load.Loaded.{Loaded}
-use Rattle.segment_postings.specs.declared.Answer.{Answer}
 use Rattle.segment_postings.specs.Landing.{first_start_of, find_block_of, load_block_of, holding, landing}
 use Rattle.segment_postings.specs.Cursor.{position, in_bounds_of, opening, at_place, starts_inside_of, start_behind_of, leaving, stepping, answer_at_of, answering, moved}
 use Rattle.segment_postings.specs.Calls.{cursor_of, reached, Reaches}
+use Rattle.segment_postings.specs.Called.{with_hit}
 use Rattle.segment_postings.specs.Private.{counted, loaded, FindsFrom, BlockLoaded, Lands}
 use Rattle.segment_postings.proofs.arrays.Question16.{Bounded, bounded}
 use Rattle.segment_postings.proofs.layout.SplitParts.{laid_out}
@@ -260,25 +260,37 @@ unfolding or_before
 left-reached k e = let no = landed_nowhere k e in record { answer = k.answer; docs_after = rw no; freqs_after = rw no }
 
 -- the answer at a place of a block
-pub answering-at : (t : Term) (c : SegmentPostings) → c.held.place < 128 → answering t c ≡ Ok (answer_at_of t c)
+pub answering-at : (t : Term) (c : SegmentPostings) → c.held.place < 128 → answering t c ≡ Ok (answer_at_of t false c)
 unfolding answering ask
 answering-at t c below = rw (lt-ltb _ _ below)
+
+-- .. with a hit told beside
+answered-with : (t : Term) (hit : Bool) (c : SegmentPostings) → with_hit hit (Ok (answer_at_of t false c)) ≡ Ok (answer_at_of t hit c)
+unfolding with_hit answer_at_of choose
+answered-with t hit c = by_test (eqb (position c.held) t.count) refl
+  where
+    by_test : (r : Bool) → eqb (position c.held) t.count ≡ r → with_hit hit (Ok (answer_at_of t false c)) ≡ Ok (answer_at_of t hit c)
+    by_test true e = rw e
+    by_test false e = rw e
+
+pub with_hit-at : (t : Term) (hit : Bool) (c : SegmentPostings) → c.held.place < 128 → with_hit hit (answering t c) ≡ Ok (answer_at_of t hit c)
+with_hit-at t hit c below = ap (with_hit hit) (answering-at t c below) ∙ answered-with t hit c
 
 pub answering_nowhere : (t : Term) (c : SegmentPostings) → 128 ≤ c.held.place → answering t c ≡ Err StateBroken
 unfolding answering ask
 answering_nowhere t c above = rw (le-ltb _ _ above)
 
 -- an answer with its cursor
-pub moved_at : (t : Term) (before : SegmentPostings) {o : Outcome SegmentPostings} {a : Outcome Answer} {c m : SegmentPostings}
-    → c.held.place < 128 → a ≡ answering t c → m ≡ c → o ≡ Ok c → record { answer = a; cursor = m } ≡ moved t before o
+pub moved_at : (t : Term) (before : SegmentPostings) (hit : SegmentPostings → Bool) {o : Outcome SegmentPostings} {c : SegmentPostings}
+    → c.held.place < 128 → o ≡ Ok c → moved t before hit o ≡ record { answer = with_hit (hit c) (answering t c); cursor = c }
 unfolding moved
-moved_at t before {c = c} below answers same e = rw (e, answers, answering-at t c below, same)
+moved_at t before hit {c = c} below e = rw (e, with_hit-at t (hit c) c below)
 
-pub moved_nowhere : (t : Term) (before : SegmentPostings) {o : Outcome SegmentPostings} {docs freqs docs' freqs' : List ℕ} {r : Outcome Held} {n : Refusal}
+pub moved_nowhere : (t : Term) (before : SegmentPostings) (hit : SegmentPostings → Bool) {o : Outcome SegmentPostings} {docs freqs docs' freqs' : List ℕ} {r : Outcome Held} {n : Refusal}
     → Reaches o docs freqs docs' freqs' r → r ≡ Err n
-    → moved t before o ≡ record { answer = Err n; cursor = before }
+    → moved t before hit o ≡ record { answer = Err n; cursor = before }
 unfolding moved
-moved_nowhere t before k e = rw (reached_nowhere k e)
+moved_nowhere t before hit k e = rw (reached_nowhere k e)
 
 -- a landing is at its block's first place
 pub landing-first : (t : Term) (bs : List ℕ) (l : Layout) (target : ℕ) (s : Start) {c : SegmentPostings}

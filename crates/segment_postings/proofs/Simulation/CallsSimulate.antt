@@ -8,7 +8,7 @@
 -- Assumes nothing.
 use Rattle.format.specs.declared.refusal.Refusal.{Refusal}
 use Rattle.format.specs.declared.refusal.Refusal.TheVariants.{TargetTooLarge}
-use Rattle.std.specs.Prelude.{◌≡◌, ℕ, ◌<◌, ◌≤◌, List, [], ◌∷◌, ◌++◌, map, get_or, Ok, Err}
+use Rattle.std.specs.Prelude.{◌≡◌, ℕ, ◌<◌, ◌≤◌, Bool, false, List, [], ◌∷◌, ◌++◌, map, get_or, Ok, Err}
 use mathlib.Core.Path.{refl, ap, ap₂, ◌∙◌}
 use native.Mathlib.Decide.{dec_le}
 use native.Mathlib.Omega.{arith}
@@ -16,21 +16,21 @@ use borrow.Author.Tests.{le-leb, lt-leb}
 use Rattle.format.specs.declared.Term.{Term}
 use Rattle.format.specs.Basics.{Outcome, choose, TERMINATED}
 use Rattle.format.specs.Reading.{reading, docs_of, freqs_of}
-use Rattle.format.specs.Model.{Answer as Shown, at, Call, step, seek, State, after, here, answer, answers_from, answers, after_all, entries_read}
+use Rattle.format.specs.Model.{Answer as Shown, at, Call, step, seek, State, after, here, hits, answer, answers_from, answers, after_all, entries_read}
 use Rattle.format.specs.Model as model
 use Rattle.format.proofs.Sound.{Sound, sound-image}
 use Rattle.format.proofs.Visited.{seek-stands}
 use Rattle.segment_postings.specs.declared.Answer.{Answer}
 use Rattle.segment_postings.specs.declared.Moved.{Moved}
 use Rattle.segment_postings.specs.declared.SegmentPostings.{SegmentPostings}
-use Rattle.segment_postings.specs.Cursor.{answering, moved, blank, opening, opened, advanced, doc_at, freq_at, sought}
-use Rattle.segment_postings.specs.Called.{shown, with_entries, reaching, called, calls_from, calls, cursor_after, Counts}
+use Rattle.segment_postings.specs.Cursor.{answering, no_hit, moved, blank, opening, opened, advanced, doc_at, freq_at, sought}
+use Rattle.segment_postings.specs.Called.{shown, with_entries, reaching, hit_by, called, calls_from, calls, cursor_after, Counts}
 use Rattle.segment_postings.specs.Called.{numbers, all_numbers, positions_from, positions, model_numbers}
 use Rattle.segment_postings.proofs.Laws.CursorTurns.{moved_ok, opened-is}
 use Rattle.segment_postings.proofs.Laws.LandingParts.{answering-at}
 use Rattle.segment_postings.proofs.Laws.SeekQuestions.{seeking_too_large}
 use Rattle.segment_postings.proofs.Simulation.HoldsBlock.{holds-in_bounds_of, doc_holds, freq_holds}
-use Rattle.segment_postings.proofs.Simulation.StepSimulates.{Agrees, entries_agree, opening-agrees, answer-agrees, stepping-agrees}
+use Rattle.segment_postings.proofs.Simulation.StepSimulates.{Agrees, entries_agree, opening-agrees, answer-agrees, hit-agrees, stepping-agrees}
 use Rattle.segment_postings.proofs.Simulation.SeekSimulates.{seeking-agrees}
 
 -- ---- what is claimed
@@ -69,11 +69,11 @@ module _ (t : Term) (bs : List ℕ) where
     pub counts : Counts t c m
     pub doc_is : doc_at c bs t ≡ Ok (get_or docs m.position TERMINATED)
     pub freq_is : freq_at c bs t ≡ Ok (get_or freqs m.position 0)
-    pub answer_is : answering t c ≡ with_entries (here docs freqs m) (entries_read t.count m.position)
+    pub answer_is : answering t c ≡ with_entries (here docs freqs m false) (entries_read t.count m.position)
 
   pub record Simulation : Type 0 where
     -- opening an image that is sound in the requested mode; it comes to the cursor that it hands back
-    pub opens : (reading t bs).verdict ≡ Ok tt → Goes (opened bs t) (here docs freqs model.opened) model.opened
+    pub opens : (reading t bs).verdict ≡ Ok tt → Goes (opened bs t) (here docs freqs model.opened false) model.opened
     pub opening_comes : (reading t bs).verdict ≡ Ok tt → opening bs t ≡ Ok (opened bs t).cursor
     -- a call; one that is allowed comes to the cursor that it hands back
     pub goes : {c : SegmentPostings} {m : State} → Stands c m → (call : Call) → Goes (called c bs t call) (answer docs freqs m call) (after docs m call)
@@ -115,18 +115,19 @@ module _ (ds fs : List ℕ) (m : State) where
   unfolding positions_from
   positions_from-more call cs = refl
 
-called_is : (c : SegmentPostings) (bs : List ℕ) (t : Term) (call : Call) → called c bs t call ≡ moved t c (reaching c bs t call)
-unfolding called reaching advanced sought
+called_is : (c : SegmentPostings) (bs : List ℕ) (t : Term) (call : Call) → called c bs t call ≡ moved t c (hit_by t call) (reaching c bs t call)
+unfolding called reaching hit_by advanced sought
 called_is c bs t step = refl
 called_is c bs t (seek target) = refl
 
-pub moved-refused : (t : Term) (before : SegmentPostings) (r : Refusal)
-    → moved t before (Err r) ≡ record { answer = Err r; cursor = before }
+pub moved-refused : (t : Term) (before : SegmentPostings) (hit : SegmentPostings → Bool) (r : Refusal)
+    → moved t before hit (Err r) ≡ record { answer = Err r; cursor = before }
 unfolding moved
-moved-refused t before r = refl
+moved-refused t before hit r = refl
 
-moved-there : (t : Term) (before : SegmentPostings) {c : SegmentPostings} {o : Outcome SegmentPostings} → o ≡ Ok c → o ≡ Ok (moved t before o).cursor
-moved-there t before e = rw (e, moved_ok)
+moved-there : (t : Term) (before : SegmentPostings) (hit : SegmentPostings → Bool) {c : SegmentPostings} {o : Outcome SegmentPostings}
+    → o ≡ Ok c → o ≡ Ok (moved t before hit o).cursor
+moved-there t before hit e = rw (e, moved_ok)
 
 all_numbers-more : (a : Outcome Answer) (rest : List (Outcome Answer)) → all_numbers (a ∷ rest) ≡ numbers a ++ all_numbers rest
 unfolding all_numbers
@@ -144,14 +145,19 @@ none-numbered n ps = refl
 -- what the model says is what its answer with the entries shows
 pub shown-again : (a : Shown) (entries : ℕ) → shown (with_entries a entries) ≡ a
 unfolding shown with_entries
-shown-again (at doc freq unpacked) entries = refl
+shown-again (at doc freq unpacked hit) entries = refl
 shown-again (model.refused r) entries = refl
 
 -- ---- what the model answers
 
+-- the hit of a call that came there
+model-hit : List ℕ → Call → State → Bool
+model-hit ds step s = false
+model-hit ds (seek target) s = hits ds s target
+
 module _ (ds fs : List ℕ) (m : State) where
-  answer_allowed : (call : Call) → Allowed call → answer ds fs m call ≡ here ds fs (after ds m call)
-  unfolding answer choose
+  answer_allowed : (call : Call) → Allowed call → answer ds fs m call ≡ here ds fs (after ds m call) (model-hit ds call (after ds m call))
+  unfolding answer choose model-hit
   answer_allowed step _ = refl
   answer_allowed (seek target) h = rw (le-leb target TERMINATED h)
 
@@ -163,9 +169,16 @@ module _ (ds fs : List ℕ) (m : State) where
 
 module _ {t : Term} {bs : List ℕ} where
   -- a call that comes to a cursor beside the model's state answers what the model has there
-  goes_to : (before : SegmentPostings) {c : SegmentPostings} {o : Outcome SegmentPostings} {m : State} (s : Sound t bs) → Agrees s c m → o ≡ Ok c
-      → Goes t bs (moved t before o) (here (docs t bs) (freqs t bs) m) m
-  goes_to before s k e = rw (e, moved_ok) (record { answer_is = answer-agrees s k; stands = record { sound = s; agrees = k } })
+  goes_to : (before : SegmentPostings) (hit : SegmentPostings → Bool) {c : SegmentPostings} {o : Outcome SegmentPostings} {m : State} (s : Sound t bs)
+      → Agrees s c m → o ≡ Ok c → Goes t bs (moved t before hit o) (here (docs t bs) (freqs t bs) m (hit c)) m
+  goes_to before hit {c} s k e =
+      rw (e, moved_ok) (record { answer_is = answer-agrees s k (hit c); stands = record { sound = s; agrees = k } })
+
+  -- .. and tells the hit that the model has there
+  hit-same : (call : Call) {c : SegmentPostings} {m : State} (s : Sound t bs) → Agrees s c m → hit_by t call c ≡ model-hit (docs t bs) call m
+  unfolding hit_by model-hit
+  hit-same step s k = refl
+  hit-same (seek target) s k = hit-agrees s k target
 
   module _ {c : SegmentPostings} {m : State} (k : Stands t bs c m) where
     -- what the call hands back, beside the model's
@@ -181,7 +194,7 @@ module _ {t : Term} {bs : List ℕ} where
     allowed_goes : (call : Call) → Allowed call → GoesBy call
     allowed_goes call h =
         let p = allowed_agrees call h in
-        rw (called_is, answer_allowed (docs t bs) (freqs t bs) m call h) (goes_to c k.sound p.1 p.2)
+        rw (called_is, answer_allowed (docs t bs) (freqs t bs) m call h, ← hit-same call k.sound p.1) (goes_to c (hit_by t call) k.sound p.1 p.2)
 
     -- a target above TERMINATED
     high_goes : (target : ℕ) → TERMINATED < target → GoesBy (seek target)
@@ -201,7 +214,7 @@ module _ {t : Term} {bs : List ℕ} where
     call-goes (seek target) = elim (dec_le target TERMINATED) [ yes most ↦ allowed_goes (seek target) most | no high ↦ high_goes target (omega arith) ]
 
     call_comes : (call : Call) → Allowed call → reaching c bs t call ≡ Ok (called c bs t call).cursor
-    call_comes call h = rw called_is (moved-there t c (allowed_agrees call h).2)
+    call_comes call h = rw called_is (moved-there t c (hit_by t call) (allowed_agrees call h).2)
 
     cursor_tells : Tells t bs c m
     cursor_tells =
@@ -215,7 +228,7 @@ module _ {t : Term} {bs : List ℕ} where
           };
           doc_is = rw (← same) (doc_holds k.sound h);
           freq_is = rw (← same) (freq_holds k.sound h);
-          answer_is = answering-at t c h.place_most ∙ answer-agrees k.sound k.agrees;
+          answer_is = answering-at t c h.place_most ∙ answer-agrees k.sound k.agrees false;
         }
 
   -- ---- a list of calls
@@ -251,7 +264,7 @@ pub simulation : (t : Term) (bs : List ℕ) → Simulation t bs
 unfolding answers positions
 simulation t bs = record {
   opens = opens;
-  opening_comes = λ readable. rw opened-is (moved-there t blank (opening-agrees (sound-image t bs readable)).2);
+  opening_comes = λ readable. rw opened-is (moved-there t blank no_hit (opening-agrees (sound-image t bs readable)).2);
   goes = call-goes;
   call_comes = call_comes;
   tells = cursor_tells;
@@ -266,5 +279,5 @@ simulation t bs = record {
       });
 }
   where
-    opens : (reading t bs).verdict ≡ Ok tt → Goes t bs (opened bs t) (here (docs t bs) (freqs t bs) model.opened) model.opened
-    opens readable = let s = sound-image t bs readable in let p = opening-agrees s in rw opened-is (goes_to blank s p.1 p.2)
+    opens : (reading t bs).verdict ≡ Ok tt → Goes t bs (opened bs t) (here (docs t bs) (freqs t bs) model.opened false) model.opened
+    opens readable = let s = sound-image t bs readable in let p = opening-agrees s in rw opened-is (goes_to blank no_hit s p.1 p.2)

@@ -1,8 +1,8 @@
 -- A cursor that holds a block of a sound image: its arrays, its last id and its offset are that block's, its numbers are in bounds.
 -- Opening gives one that holds block 0, a step one that holds the same block or the next, and the answer at its position is what the
--- image's documents and frequencies have there, as are the values of `doc` and `term_freq`.
+-- image's documents and frequencies have there, as are the values of `doc` and `term_freq` and a seek's hit.
 -- Assumes nothing.
-use Rattle.std.specs.Prelude.{◌≡◌, ℕ, zero, suc, ◌+◌, ◌-◌, ◌*◌, ◌<◌, ◌≤◌, min, true, ltb, List, [], ◌∷◌, length, get_or, Ok}
+use Rattle.std.specs.Prelude.{◌≡◌, ℕ, zero, suc, ◌+◌, ◌-◌, ◌*◌, ◌<◌, ◌≤◌, min, Bool, true, ◌&&◌ as and, eqb, ltb, List, [], ◌∷◌, length, get_or, Ok}
 use mathlib.Core.Logic.{⊎_elim}
 use mathlib.Core.Path.{refl, sym, ◌∙◌}
 use native.Mathlib.Nat.{not-suc-le-zero, le_of_suc-le-suc, eq-or-lt_of_le, add-zero}
@@ -17,11 +17,12 @@ use Rattle.format.specs.Layout.{full_blocks_of}
 use Rattle.format.specs.Reading.{Block, reading, docs_of, freqs_of}
 use Rattle.format.proofs.Blocks.{block_at, full-sound, tail-sound, docs_many, freqs_many, doc-at, freq-at}
 use Rattle.format.proofs.Sound.{Sound, sound-blocks, whole-count, tail-short}
+use Rattle.block_search.proofs.Hits.{stands_there}
 use Rattle.segment_postings.specs.declared.find.Found.{Found}
 use Rattle.segment_postings.specs.declared.SegmentPostings.{SegmentPostings}
 use Rattle.segment_postings.specs.Landing.{padded, holding, landing}
 use Rattle.segment_postings.specs.Cursor.{position, in_bounds_of, answer_at_of, opening, at_place}
-use Rattle.segment_postings.specs.Cursor.{least_after_of, leaving, stepping, value_at, doc_at, freq_at}
+use Rattle.segment_postings.specs.Cursor.{least_after_of, leaving, stepping, value_at, doc_at, freq_at, hit_of}
 use Rattle.segment_postings.proofs.Simulation.EntriesLeadTo.{start_of, start_at, last_below, start-inside, FoundFor, search_lands}
 use Rattle.segment_postings.proofs.Laws.LandingParts.{starts-behind}
 use Rattle.segment_postings.proofs.Laws.CursorTurns.{landing_is, answer_at_of-is, opening-is, leaving-is, stepping-is}
@@ -252,18 +253,35 @@ module _ {t : Term} {bs : List ℕ} (s : Sound t bs) {c : SegmentPostings} (k : 
   no_freq : position c.held ≡ t.count → get_or freqs (position c.held) 0 ≡ 0
   no_freq e = get_or-eq_default freqs 0 (omega (arith, freqs_many (sound-blocks s), whole-count t))
 
-  pub answer-holds : answer_at_of t c
+  pub answer-holds : (hit : Bool) → answer_at_of t hit c
       ≡ record {
         doc = get_or docs (position c.held) TERMINATED;
         freq = get_or freqs (position c.held) 0;
         unpacked = c.held.unpacked;
         entries = c.held.entries;
+        hit = hit;
       }
   unfolding choose
-  answer-holds =
+  answer-holds hit =
       ⊎_elim
       (λ e. rw (answer_at_of-is, eq-eqb (position c.held) t.count e, no_doc e, no_freq e))
       (λ h. rw (answer_at_of-is, ne_eqb (position c.held) t.count (λ e. omega arith), doc_there h, freq_there h))
+      (eq-or-lt_of_le k.position_most)
+
+  -- a target is the document at the position where the list says so; at the end it isn't
+  pub hit-holds : (target : ℕ) → hit_of t target c ≡ and (ltb (position c.held) (length docs)) (eqb (get_or docs (position c.held) TERMINATED) target)
+  unfolding hit_of choose
+  hit-holds target =
+      let many : length docs ≡ t.count = docs_many (sound-blocks s) ∙ whole-count t in
+      ⊎_elim
+      (λ e. rw (eq-eqb (position c.held) t.count e, le-ltb (position c.held) (length docs) (omega arith)))
+      (λ h.
+      rw (
+        ne_eqb (position c.held) t.count (λ e. omega arith),
+        lt-ltb (position c.held) (length docs) (omega arith),
+        stands_there c.docs target c.held.place k.place_most,
+        doc_there h,
+      ))
       (eq-or-lt_of_le k.position_most)
 
   -- the document and the frequency, as calls of their own

@@ -2,7 +2,7 @@
 -- as many blocks as the model has visited, a step leaves them so, and the cursor's answer is the model's. Both counts grow by one just
 -- where the block of the position does.
 -- Assumes nothing.
-use Rattle.std.specs.Prelude.{◌≡◌, ℕ, ◌+◌, ◌/◌, ◌≤◌, min, List, length, Ok}
+use Rattle.std.specs.Prelude.{◌≡◌, ℕ, ◌+◌, ◌/◌, ◌≤◌, min, Bool, List, length, Ok}
 use mathlib.Core.Logic.{⊎_elim}
 use mathlib.Core.Path.{sym, ap, ◌∙◌}
 use native.Mathlib.Nat.{eq-or-lt_of_le}
@@ -10,14 +10,14 @@ use native.Mathlib.Omega.{arith}
 use Rattle.format.specs.declared.Term.{Term}
 use Rattle.format.specs.Layout.{full_blocks_of}
 use Rattle.format.specs.Reading.{reading, docs_of, freqs_of}
-use Rattle.format.specs.Model.{Call, step, State, opened, after, here, entries_read}
+use Rattle.format.specs.Model.{Call, step, State, opened, after, here, hits, entries_read}
 use Rattle.format.proofs.Blocks.{docs_many}
 use Rattle.format.proofs.Sound.{Sound, sound-blocks, whole-count}
 use Rattle.format.proofs.Visited.{Tracked, block_of, opened-tracked, after-tracked, after-grown, step-goes}
 use Rattle.segment_postings.specs.declared.SegmentPostings.{SegmentPostings}
-use Rattle.segment_postings.specs.Cursor.{position, answer_at_of, opening, stepping}
+use Rattle.segment_postings.specs.Cursor.{position, answer_at_of, opening, stepping, hit_of}
 use Rattle.segment_postings.specs.Called.{with_entries}
-use Rattle.segment_postings.proofs.Simulation.HoldsBlock.{Holds, MovesTo, opening_landed, landed_there, stepping-steps, answer-holds}
+use Rattle.segment_postings.proofs.Simulation.HoldsBlock.{Holds, MovesTo, opening_landed, landed_there, stepping-steps, answer-holds, hit-holds}
 
 pub record Agrees {t : Term} {bs : List ℕ} (s : Sound t bs) (c : SegmentPostings) (m : State) : Type 0 where
   pub holds : Holds s c
@@ -63,9 +63,14 @@ module _ {t : Term} {bs : List ℕ} (s : Sound t bs) where
     entries_agree = rw (← k.same_position) (entries_read_is k.holds)
 
     -- the answer is the model's, with the entries that lead to the block of its position
-    pub answer-agrees : Ok (answer_at_of t c) ≡ with_entries (here docs freqs m) (entries_read t.count m.position)
+    pub answer-agrees : (hit : Bool) → Ok (answer_at_of t hit c) ≡ with_entries (here docs freqs m hit) (entries_read t.count m.position)
     unfolding with_entries here
-    answer-agrees = rw (answer-holds s k.holds, k.same_position, k.same_count, entries_agree)
+    answer-agrees hit = rw (answer-holds s k.holds, k.same_position, k.same_count, entries_agree)
+
+    -- .. and a target is the document there just where the model says so
+    pub hit-agrees : (target : ℕ) → hit_of t target c ≡ hits docs m target
+    unfolding hits
+    hit-agrees target = rw (hit-holds s k.holds, k.same_position)
 
     -- a call that goes where the model's goes
     pub moves_agree : (call : Call) {p : ℕ} {c' : SegmentPostings} → MovesTo s p c c' → (after docs m call).position ≡ p

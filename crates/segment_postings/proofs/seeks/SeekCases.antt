@@ -13,29 +13,32 @@ use Rattle.format.specs.Layout.{full_blocks_of}
 use Rattle.block_search.specs.Search.{search_block_of}
 use Rattle.segment_postings.specs.declared.Held.{Held}
 use Rattle.segment_postings.specs.declared.SegmentPostings.{SegmentPostings}
-use Rattle.segment_postings.specs.Cursor.{in_bounds_of, position, opening, held_at, at_place, leaving, place_of, within, behind, seeking, seeking_fresh, ranking}
-use Rattle.segment_postings.specs.Calls.{cursor_of, reached, Reaches}
-use Rattle.segment_postings.proofs.Laws.LandingParts.{reaches_as, reached-at, reached_nowhere}
+use Rattle.segment_postings.specs.declared.Sought.{Sought}
+use Rattle.segment_postings.specs.Cursor.{in_bounds_of, position, opening, at_place, leaving, place_of, within, behind, seeking, seeking_fresh, ranking}
+use Rattle.segment_postings.specs.Calls.{cursor_of, reached, Reaches, Finds}
+use Rattle.segment_postings.specs.Private.{told_of}
+use Rattle.segment_postings.proofs.Laws.LandingParts.{reached-at, reached_nowhere}
+use Rattle.segment_postings.proofs.Laws.SeekFinds.{finds-none, finds-told}
 use Rattle.segment_postings.proofs.Laws.CursorTurns.{behind-is, seeking-is, seeking_fresh-is}
 
 -- ---- what follows a call on lent arrays
 
 module _ {o : Outcome SegmentPostings} {docs freqs docs' freqs' : List ℕ} {r : Outcome Held} (k : Reaches o docs freqs docs' freqs' r) where
   -- nothing, where it was refused
-  pub then_nowhere : (f : SegmentPostings → Outcome SegmentPostings) {n : Refusal} → r ≡ Err n
-      → Reaches (and_then o f) docs freqs docs' freqs' (Err n)
+  pub then_nowhere : {t : Term} {target : ℕ} (f : SegmentPostings → Outcome SegmentPostings) {n : Refusal} → r ≡ Err n
+      → Finds t target (and_then o f) docs freqs docs' freqs' (Err n)
   unfolding and_then reached or_before
   then_nowhere f e =
       let none = reached_nowhere k e in
-      record { answer = rw none; docs_after = rw none (rw none at k.docs_after); freqs_after = rw none (rw none at k.freqs_after) }
+      finds-none
+      (record { answer = rw none; docs_after = rw none (rw none at k.docs_after); freqs_after = rw none (rw none at k.freqs_after) })
 
   -- the target's place in the block that it came to
-  pub then_placed : (target : ℕ) {h h' : Held} {p : ℕ} → r ≡ Ok h → p ≡ search_block_of docs' target
-      → h' ≡ held_at h p → Reaches (and_then o λ landed. Ok (at_place landed (place_of landed target))) docs freqs docs' freqs' (Ok h')
-  unfolding and_then place_of at_place reached or_before
-  then_placed target {h' = h'} e place same =
-      reaches_as {o' = Ok (cursor_of h' docs' freqs')} (rw (reached-at k e, same, place))
-      (record { answer = refl; docs_after = refl; freqs_after = refl })
+  pub then_placed : {t : Term} {target : ℕ} {h : Held} {s : Sought} → r ≡ Ok h
+      → s ≡ told_of t target (at_place (cursor_of h docs' freqs') (search_block_of docs' target))
+      → Finds t target (and_then o λ landed. Ok (at_place landed (place_of landed target))) docs freqs docs' freqs' (Ok s)
+  unfolding and_then place_of at_place
+  then_placed e placed = finds-told _ (rw (reached-at k e)) placed
 
 -- ---- in the held block
 
