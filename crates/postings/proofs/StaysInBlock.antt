@@ -6,6 +6,7 @@
 -- image, whose next block begins before the posting bytes.
 -- Assumes nothing.
 use Rattle.std.specs.Prelude.{Ok, Err}
+use mathlib.Core.Bool.{Bool, true, false}
 use mathlib.Core.Path.{◌≡◌, refl}
 use mathlib.Core.List.{List, [], ◌∷◌, ◌++◌}
 use Prim.Native.Nat.{ℕ, ◌+◌, ◌≤◌, ◌<◌}
@@ -53,9 +54,9 @@ module _ (c : SegmentPostings) (t : Term) (bs bs' : List ℕ) (same : length bs 
 
 -- ---- one image
 
--- an answer in one block of these: its document, with nothing that isn't 1 beside it
-abbrev at : ℕ → Outcome Answer
-at doc = Ok (record { doc = doc; freq = 1; unpacked = 1; entries = 1 })
+-- an answer in one block of these: its document and whether it is a hit, with nothing that isn't 1 beside them
+abbrev at : ℕ → Bool → Outcome Answer
+at doc hit = Ok (record { doc = doc; freq = 1; unpacked = 1; entries = 1; hit = hit })
 
 -- the ids 0 to 128 in mode 0, the tail's number cut short: its first block is read as it stands, the tail refused under 8 by the calls
 -- that would land on it, and the next call finds the cursor in the first block again
@@ -64,7 +65,7 @@ late = 0x85 ∷ 0x7F ∷ 0 ∷ 0 ∷ 0 ∷ 0x40 ∷ 0x01 ∷ []
 
 pub refused_once_landed_on :
     calls late (record { mode = 0; requested = 0; count = 129 }) (seek 127 ∷ step ∷ seek 128 ∷ seek 5 ∷ [])
-    ≡ at 0 ∷ at 127 ∷ Err NumberBroken ∷ Err NumberBroken ∷ at 127 ∷ []
+    ≡ at 0 false ∷ at 127 true ∷ Err NumberBroken ∷ Err NumberBroken ∷ at 127 false ∷ []
 unfolding calls pivots_below_of
 refused_once_landed_on = refl
 

@@ -24,7 +24,7 @@
 -- Assumes nothing.
 use Rattle.std.specs.Prelude.{Ok, Err}
 use mathlib.Core.Path.{◌≡◌, refl, sym, ap, ap₂, ◌∙◌}
-use mathlib.Core.Bool.{true}
+use mathlib.Core.Bool.{Bool, true}
 use mathlib.Core.List.{List, ◌∷◌, map}
 use Prim.Native.Nat.{ℕ, ◌+◌, ◌*◌, ◌/◌, ◌^◌, ◌≤◌, ◌<◌}
 use native.Mathlib.Omega.{arith}
@@ -42,10 +42,11 @@ use Rattle.segment_postings.specs.declared.Answer.{Answer}
 use Rattle.segment_postings.specs.declared.Held.{Held}
 use Rattle.segment_postings.specs.declared.Moved.{Moved}
 use Rattle.segment_postings.specs.declared.SegmentPostings.{SegmentPostings}
-use Rattle.segment_postings.specs.Cursor.{in_bounds_of, moved, opened, stepping, seeking, advanced, sought}
+use Rattle.segment_postings.specs.Cursor.{in_bounds_of, no_hit, moved, opened, stepping, seeking, advanced, hit_of, sought}
 use Rattle.segment_postings.specs.Calls.{cursor_of, Leaves, Reaches}
-use Rattle.segment_postings.specs.Called.{reaching, called, calls_from, calls, cursor_after, positions, answer_length, entries_place, model_numbers}
+use Rattle.segment_postings.specs.Called.{reaching, hit_by, called, calls_from, calls, cursor_after, positions, answer_length, entries_place, model_numbers}
 use Rattle.segment_postings.specs.Called.{SameCall}
+use Rattle.segment_postings.proofs.Laws.LandingParts.{no_hit_told}
 use Rattle.segment_postings.proofs.Laws.CallsByValue.{open_in_calls, advance_in_calls, seek_in_calls}
 use Rattle.segment_postings.proofs.Laws.SeekQuestions.{seeking_too_large}
 use Rattle.segment_postings.proofs.Simulation.CallsSimulate.{shown-again, simulation}
@@ -69,8 +70,8 @@ leaves e = (ap (λ (m : Moved). m.answer) e, ap (λ (m : Moved). m.cursor) e)
 -- a call on arrays is the call by value on the cursor that they make with the numbers
 on_arrays_call : (bs : List ℕ) (t : Term) (call : Call) (held : Held) {docs freqs docs' freqs' : List ℕ} {r : Outcome Held}
     → Reaches (reaching (cursor_of held docs freqs) bs t call) docs freqs docs' freqs' r
-    → SameCall t (cursor_of held docs freqs) (called (cursor_of held docs freqs) bs t call) docs freqs docs' freqs' r
-unfolding reaching called
+    → SameCall t (hit_by t call) (cursor_of held docs freqs) (called (cursor_of held docs freqs) bs t call) docs freqs docs' freqs' r
+unfolding reaching hit_by called
 on_arrays_call bs t step held k = advance_in_calls bs t _ k
 on_arrays_call bs t (seek target) held k = seek_in_calls bs t _ target k
 
@@ -78,8 +79,8 @@ met : {bs : List ℕ} {t : Term} {call : Call} {manner : Manner} {c : SegmentPos
     → Meets bs t call manner c a c' → Leaves (called c bs t call) a c'
 met (handed_back e) = leaves e
 met (left_there e) = e
-met {bs} {t} {call} (came held {docs} {freqs} {docs'} {freqs'} {held'} k tells) =
-    leaves (rw tells (sym ((on_arrays_call bs t call held k).came refl)))
+met {bs} {t} {call} (came held {docs} {freqs} {docs'} {freqs'} {held'} k hits tells) =
+    leaves (rw (tells, hits) (sym ((on_arrays_call bs t call held k).came refl)))
 met {bs} {t} {call} (stayed held k) = let s = (on_arrays_call bs t call held k).stayed refl in leaves (rw (s.1, s.2) (sym s.0))
 
 -- on every image, admitted or not, each answer and each cursor is what the definition of its call gives
@@ -95,7 +96,8 @@ called_are (next e later) =
 -- .. and opening's
 pub opened_are : {bs : List ℕ} {t : Term} {a : Outcome Answer} {c : SegmentPostings} → Opened bs t a c → Leaves (opened bs t) a c
 opened_are (handed_out e) = leaves e
-opened_are {bs} {t} (filled {docs} {freqs} {docs'} {freqs'} {held} k tells) = leaves (rw tells (sym ((open_in_calls bs t k).came refl)))
+opened_are {bs} {t} (filled {docs} {freqs} {docs'} {freqs'} {held} k tells) =
+    leaves (rw tells (sym ((open_in_calls bs t k).came refl ∙ rw no_hit_told)))
 opened_are {bs} {t} (unfilled k) = leaves (sym ((open_in_calls bs t k).stayed refl).0)
 
 -- ---- the promise
@@ -127,17 +129,17 @@ third_promise bs t sound known opens {made = made} later =
 
 -- ---- after a refusal the next call gets the same cursor again
 
-refused-moved : (t : Term) (before : SegmentPostings) (o : Outcome SegmentPostings) {r : Refusal} → (moved t before o).answer ≡ Err r
-    → (moved t before o).cursor ≡ before
+refused-moved : (t : Term) (before : SegmentPostings) (hit : SegmentPostings → Bool) (o : Outcome SegmentPostings) {r : Refusal}
+    → (moved t before hit o).answer ≡ Err r → (moved t before hit o).cursor ≡ before
 unfolding moved
-refused-moved t before (Ok c) e = absurd (refused≢ok (sym e))
-refused-moved t before (Err r) e = refl
+refused-moved t before hit (Ok c) e = absurd (refused≢ok (sym e))
+refused-moved t before hit (Err r) e = refl
 
 refused-called : (c : SegmentPostings) (bs : List ℕ) (t : Term) (call : Call) {r : Refusal} → (called c bs t call).answer ≡ Err r
     → (called c bs t call).cursor ≡ c
 unfolding called advanced sought
-refused-called c bs t step e = refused-moved t c (stepping c bs t) e
-refused-called c bs t (seek target) e = refused-moved t c (seeking c bs t target) e
+refused-called c bs t step e = refused-moved t c no_hit (stepping c bs t) e
+refused-called c bs t (seek target) e = refused-moved t c (hit_of t target) (seeking c bs t target) e
 
 -- in every manner, on every image, admitted or not
 pub refused-stays : {bs : List ℕ} {t : Term} {call : Call} {manner : Manner} {c c' : SegmentPostings} {r : Refusal}

@@ -20,28 +20,40 @@ term = record { mode = 0; requested = 0; count = 129 }
 abbrev mixed : List ℕ
 mixed = (3 * 2 ^ 32 + 128) ∷ (1 * 2 ^ 32 + 2147483648) ∷ 0 ∷ []
 
-pub mixed-answers : answers_after list term mixed (replicate 21 7)
-    ≡ 0 ∷ 0 ∷ 1 ∷ 1 ∷ 1 ∷ 0 ∷ 128 ∷ 1 ∷ 2 ∷ 1 ∷ 10 ∷ 0 ∷ 0 ∷ 0 ∷ 0 ∷ 0 ∷ 2147483647 ∷ 0 ∷ 2 ∷ 1 ∷ 7 ∷ []
+pub mixed-answers : answers_after list term mixed (replicate 25 7)
+    ≡ 0 ∷ 0 ∷ 1 ∷ 1 ∷ 1 ∷ 0 ∷ 0 ∷ 128 ∷ 1 ∷ 2 ∷ 1 ∷ 1 ∷ 10 ∷ 0 ∷ 0 ∷ 0 ∷ 0 ∷ 0 ∷ 0 ∷ 2147483647 ∷ 0 ∷ 2 ∷ 1 ∷ 0 ∷ 7 ∷ []
 unfolding answers_after pivots_below_of
 mixed-answers = refl
 
-pub mixed-count : how_many list term mixed (replicate 21 7) ≡ 4
+pub mixed-count : how_many list term mixed (replicate 25 7) ≡ 4
 unfolding how_many pivots_below_of
 mixed-count = refl
 
 -- at the end, on the empty list: such a target by value and on the lent cursor, then the largest that is taken
 pub ended-answers : answers_after [] (record { mode = 0; requested = 0; count = 0 })
-    ((1 * 2 ^ 32 + 2147483648) ∷ (3 * 2 ^ 32 + 4294967295) ∷ (1 * 2 ^ 32 + 2147483647) ∷ []) (replicate 20 7)
-    ≡ 0 ∷ 2147483647 ∷ 0 ∷ 1 ∷ 0 ∷ 10 ∷ 0 ∷ 0 ∷ 0 ∷ 0 ∷ 10 ∷ 0 ∷ 0 ∷ 0 ∷ 0 ∷ 0 ∷ 2147483647 ∷ 0 ∷ 1 ∷ 0 ∷ []
+    ((1 * 2 ^ 32 + 2147483648) ∷ (3 * 2 ^ 32 + 4294967295) ∷ (1 * 2 ^ 32 + 2147483647) ∷ []) (replicate 24 7)
+    ≡ 0 ∷ 2147483647 ∷ 0 ∷ 1 ∷ 0 ∷ 0 ∷ 10 ∷ 0 ∷ 0 ∷ 0 ∷ 0 ∷ 0 ∷ 10 ∷ 0 ∷ 0 ∷ 0 ∷ 0 ∷ 0 ∷ 0 ∷ 2147483647 ∷ 0 ∷ 1 ∷ 0 ∷ 0 ∷ []
 unfolding answers_after pivots_below_of
 ended-answers = refl
 
+-- the very document or the next (document 02, Ask 2): the first id above 3, then 7 itself, 6 from behind, 300 and its neighbour, where the end
+-- is, and TERMINATED there
+abbrev three : List ℕ
+three = 0x83 ∷ 0x84 ∷ 0x25 ∷ 0x82 ∷ []
+
+pub hits-told : answers_after three (record { mode = 0; requested = 0; count = 3 })
+    ((1 * 2 ^ 32 + 4) ∷ (3 * 2 ^ 32 + 7) ∷ (1 * 2 ^ 32 + 6) ∷ (3 * 2 ^ 32 + 300) ∷ (1 * 2 ^ 32 + 301) ∷ (3 * 2 ^ 32 + 2147483647) ∷ []) (replicate 42 9)
+    ≡ 0 ∷ 3 ∷ 1 ∷ 1 ∷ 0 ∷ 0 ∷ 0 ∷ 7 ∷ 1 ∷ 1 ∷ 0 ∷ 0 ∷ 0 ∷ 7 ∷ 1 ∷ 1 ∷ 0 ∷ 1 ∷ 0 ∷ 7 ∷ 1 ∷ 1 ∷ 0 ∷ 0 ∷ 0 ∷ 300 ∷ 1 ∷ 1 ∷ 0 ∷ 1
+    ∷ 0 ∷ 2147483647 ∷ 0 ∷ 1 ∷ 0 ∷ 0 ∷ 0 ∷ 2147483647 ∷ 0 ∷ 1 ∷ 0 ∷ 0 ∷ []
+unfolding answers_after pivots_below_of
+hits-told = refl
+
 -- one place too few
-pub too_short : answers_after list term mixed (replicate 19 7) ≡ replicate 19 7
+pub too_short : answers_after list term mixed (replicate 23 7) ≡ replicate 23 7
 unfolding answers_after
 too_short = refl
 
 -- kind 4
-pub unknown_kind : how_many list term ((4 * 2 ^ 32) ∷ []) (replicate 10 7) ≡ 0
+pub unknown_kind : how_many list term ((4 * 2 ^ 32) ∷ []) (replicate 12 7) ≡ 0
 unfolding how_many
 unknown_kind = refl

@@ -1,9 +1,9 @@
 -- A list of calls on one cursor in any mixture of three manners, each call as the contract of its function says its outcome: by value
 -- (`open`, `advance`, `seek`), on a lent cursor (`advance_mut`, `seek_mut`), and on two lent arrays with the cursor's numbers beside
--- them (`open_in`, `advance_in`, `seek_in`, and `answer_at` for what stands where they came to).
+-- them (`open_in`, `advance_in`, `seek_in`, which tells the hit, and `answer_at` for what stands where they came to).
 -- Assumes nothing.
 use Rattle.format.specs.Basics.{Outcome}
-use Rattle.std.specs.Prelude.{◌≡◌, List, [], ◌∷◌, map, ℕ, ◌+◌, ◌*◌, ◌^◌, ◌<◌, Ok, Err}
+use Rattle.std.specs.Prelude.{◌≡◌, Bool, List, [], ◌∷◌, map, ℕ, ◌+◌, ◌*◌, ◌^◌, ◌<◌, Ok, Err}
 use Rattle.format.specs.declared.refusal.Refusal.{Refusal}
 use Rattle.format.specs.declared.Term.{Term}
 use Rattle.format.specs.Model.{Call, step, seek}
@@ -13,7 +13,7 @@ use Rattle.segment_postings.specs.declared.Moved.{Moved}
 use Rattle.segment_postings.specs.declared.SegmentPostings.{SegmentPostings}
 use Rattle.segment_postings.specs.Cursor.{answering, blank, opening, opened}
 use Rattle.segment_postings.specs.Calls.{Leaves, cursor_of, Reaches}
-use Rattle.segment_postings.specs.Called.{reaching, called}
+use Rattle.segment_postings.specs.Called.{reaching, hit_by, called, with_hit}
 
 -- how a call gets the cursor
 pub data Manner : Type 0 where
@@ -48,12 +48,13 @@ pub data Meets (bs : List ℕ) (t : Term) (call : Call) : Manner → SegmentPost
   handed_back : {c : SegmentPostings} {r : Moved} → r ≡ called c bs t call → Meets bs t call by_value c r.answer r.cursor
   -- on a lent cursor it answers, and leaves the other in the caller's record
   left_there : {c after : SegmentPostings} {answer : Outcome Answer} → Leaves (called c bs t call) answer after → Meets bs t call lent c answer after
-  -- on two arrays, which make the cursor together with its numbers, it came somewhere: it hands back other numbers, and `answer_at`
-  -- answers of them and of the arrays as they are left
-  came : (held : Held) {docs freqs docs' freqs' : List ℕ} {held' : Held} {answer : Outcome Answer}
+  -- on two arrays, which make the cursor together with its numbers, it came somewhere: it hands back other numbers, a seek with its hit, and
+  -- `answer_at` answers of them and of the arrays as they are left. What is told is that answer with that hit, a step's with none
+  came : (held : Held) {docs freqs docs' freqs' : List ℕ} {held' : Held} {hit : Bool} {answer : Outcome Answer}
       → Reaches (reaching (cursor_of held docs freqs) bs t call) docs freqs docs' freqs' (Ok held')
+      → hit ≡ hit_by t call (cursor_of held' docs' freqs')
       → answer ≡ answering t (cursor_of held' docs' freqs')
-      → Meets bs t call on_arrays (cursor_of held docs freqs) answer (cursor_of held' docs' freqs')
+      → Meets bs t call on_arrays (cursor_of held docs freqs) (with_hit hit answer) (cursor_of held' docs' freqs')
   -- .. or was refused: the caller still has its numbers, and the arrays as they are left
   stayed : (held : Held) {docs freqs docs' freqs' : List ℕ} {r : Refusal}
       → Reaches (reaching (cursor_of held docs freqs) bs t call) docs freqs docs' freqs' (Err r)

@@ -2,7 +2,7 @@
 -- fed the documents and frequencies that the definitions read from the image in the requested mode, and the calls; nothing of a cursor
 -- enters it.
 -- Assumes nothing.
-use Rattle.std.specs.Prelude.{Bool, true, not, ◌&&◌ as and, List, [], ◌∷◌, map, ◌≡◌, ℕ, ◌+◌, ◌*◌, ◌/◌, ◌≤◌, get_or}
+use Rattle.std.specs.Prelude.{Bool, true, false, not, ◌&&◌ as and, List, [], ◌∷◌, map, ◌≡◌, ℕ, ◌+◌, ◌*◌, ◌/◌, ◌≤◌, get_or}
 use Rattle.format.specs.declared.Term.{Term}
 use Rattle.format.specs.Basics.{TERMINATED, Outcome}
 use Rattle.format.specs.Reading.{reading, docs_of, freqs_of}
@@ -29,7 +29,7 @@ state_after bs t cs = after_all (docs_of (reading t bs).blocks) model.opened cs
 
 -- `told` are opening's answer and those of the calls, `c` the cursor after them
 pub record Promised (bs : List ℕ) (t : Term) (cs : List Call) (told : List (Outcome Answer)) (c : SegmentPostings) : Type 0 where
-  -- document, frequency and blocks unpacked of every answer are the model's, and so are its refusals
+  -- document, frequency, blocks unpacked and hit of every answer are the model's, and so are its refusals
   pub model_answers_is : map shown told ≡ answers (docs_of (reading t bs).blocks) (freqs_of (reading t bs).blocks) cs
   -- .. with the entries read that lead to the block of the model's position, at most as many as full blocks
   pub model_entries : all_numbers told
@@ -38,13 +38,13 @@ pub record Promised (bs : List ℕ) (t : Term) (cs : List Call) (told : List (Ou
   -- and after the list the cursor is at the model's position, with as many blocks unpacked as the model has visited
   pub model_state : Counts t c (state_after bs t cs)
   -- .. `doc` and `term_freq` give the document and the frequency at that position, at the end TERMINATED and 0, and `answer_at` gives
-  -- both with the blocks unpacked
+  -- both with the blocks unpacked, and no hit, since it has no target
   pub model_doc : {r : Outcome ℕ} → r ≡ doc_at c bs t
       → value_numbers r ≡ 0 ∷ get_or (docs_of (reading t bs).blocks) (state_after bs t cs).position TERMINATED ∷ []
   pub model_freq : {r : Outcome ℕ} → r ≡ freq_at c bs t
       → value_numbers r ≡ 0 ∷ get_or (freqs_of (reading t bs).blocks) (state_after bs t cs).position 0 ∷ []
   pub model_there : {r : Outcome Answer} → r ≡ answering t c
-      → shown r ≡ here (docs_of (reading t bs).blocks) (freqs_of (reading t bs).blocks) (state_after bs t cs)
+      → shown r ≡ here (docs_of (reading t bs).blocks) (freqs_of (reading t bs).blocks) (state_after bs t cs) false
   -- the size of the model's set is the number of different blocks in which its positions lie: the set holds no block twice, and a block
   -- exactly where one of the positions, opening's included, lies in it
   pub visited_once : distinct (state_after bs t cs).visited ≡ true

@@ -10,8 +10,9 @@ use segment_postings::{
     Answer, Moved, SegmentPostings, advance, advance_by_lending, open, seek, seek_by_lending,
 };
 
-// How many numbers an answer is, and their places: a refusal's number or 0, document, frequency, blocks unpacked, entries read.
-pub const ANSWER_NUMBERS: usize = 5;
+// How many numbers an answer is, and their places: a refusal's number or 0, document, frequency, blocks unpacked, entries read, and 1 for a
+// hit, else 0.
+pub const ANSWER_NUMBERS: usize = 6;
 
 pub const REFUSAL_PLACE: usize = 0;
 
@@ -22,6 +23,8 @@ pub const FREQ_PLACE: usize = 2;
 pub const UNPACKED_PLACE: usize = 3;
 
 pub const ENTRIES_PLACE: usize = 4;
+
+pub const HIT_PLACE: usize = 5;
 
 // A call that a number codes.
 #[derive(Clone, Copy)]
@@ -81,6 +84,7 @@ fn numbers_of(answer: Result<Answer, Refusal>) -> [u64; ANSWER_NUMBERS]
             numbers[FREQ_PLACE] = a.freq as u64;
             numbers[UNPACKED_PLACE] = a.unpacked as u64;
             numbers[ENTRIES_PLACE] = a.entries as u64;
+            numbers[HIT_PLACE] = u64::from(a.hit);
         }
         Err(refusal) => numbers[REFUSAL_PLACE] = refusal.number() as u64,
     }

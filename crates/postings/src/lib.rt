@@ -46,6 +46,7 @@
 //     let moved = advance(opened.cursor, image, term);                 // the next
 //     let moved = seek(moved.cursor, image, term, 300);                // the first at or above 300, not before the present one
 //     let answer = moved.answer?;                                      // `doc`, `freq`, and so far `unpacked` blocks and `entries` read
+//     let is_there = answer.hit;                                       // whether 300 itself is there, or only a later document
 //     let d = doc(moved.cursor, image, term)?;                         // 2147483647 at the end
 //     let f = term_freq(moved.cursor, image, term)?;                   // 0 at the end
 //
@@ -66,11 +67,15 @@
 //     let mut freqs = [1u32; 128];
 //     let held = open_in(image, term, &mut docs, &mut freqs)?;
 //     let held = advance_in(held, image, term, &mut docs, &mut freqs)?;
-//     let held = seek_in(held, image, term, 300, &mut docs, &mut freqs)?;
+//     let sought = seek_in(held, image, term, 300, &mut docs, &mut freqs)?;
 //
-// They answer where they came to, and `answer_at` what stands there, at the end 2147483647 and 0 as the other calls do:
+// They answer where they came to, a seek with its hit, and `answer_at` what stands there, at the end 2147483647 and 0 as the other calls do:
 //
-//     let answer = answer_at(held, term, &docs, &freqs)?;
+//     let answer = answer_at(sought.held, term, &docs, &freqs)?;
+//     let is_there = sought.hit;
+//
+// In each of these manners a seek is a hit where the document it answers is the target itself; a backward one, where the present document
+// is. At the end none is, with 2147483647 neither, and opening and a step have no target.
 //
 // In each of these manners a seek to a target above 2147483647 is refused, at the end too, and leaves the cursor where it was:
 //
@@ -102,15 +107,16 @@
 mod calls;
 
 pub use crate::calls::{
-    ANSWER_NUMBERS, DOC_PLACE, ENTRIES_PLACE, FREQ_PLACE, REFUSAL_PLACE, UNPACKED_PLACE, run_calls,
+    ANSWER_NUMBERS, DOC_PLACE, ENTRIES_PLACE, FREQ_PLACE, HIT_PLACE, REFUSAL_PLACE, UNPACKED_PLACE,
+    run_calls,
 };
 pub use format::{Refusal, TERMINATED, Term};
 pub use segment_postings::layout::{posting_bytes, skip_bytes};
 pub use segment_postings::validate::validate;
 pub use segment_postings::{
-    Answer, Held, Moved, SegmentPostings, advance, advance_by_lending, advance_in, advance_mut,
-    answer_at, doc, open, open_in, rank, read, seek, seek_by_lending, seek_in, seek_mut, term_freq,
-    total,
+    Answer, Held, Moved, SegmentPostings, Sought, advance, advance_by_lending, advance_in,
+    advance_mut, answer_at, doc, open, open_in, rank, read, seek, seek_by_lending, seek_in,
+    seek_mut, term_freq, total,
 };
 pub use serializer::{
     ClosedIn, ClosedTerm, PostingsSerializer, Progress, Step, ask_list, close_term, close_term_in,

@@ -25,7 +25,7 @@ use Rattle.postings.proofs.calls.CodedCalls.{numbers-length, as_many-answers}
 
 entry_of : (a : Shown) (e n : ℕ) → e ≤ n → get_or (numbers (with_entries a e)) entries_place 0 ≤ n
 unfolding numbers with_entries
-entry_of (at doc freq unpacked) e n h = h
+entry_of (at doc freq unpacked hit) e n h = h
 entry_of (refused k) e n h = omega arith
 
 entries_most : (n p : ℕ) → entries_read n p ≤ n / 128

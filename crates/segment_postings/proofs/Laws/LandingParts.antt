@@ -4,7 +4,7 @@
 -- Assumes nothing.
 use Rattle.format.specs.declared.refusal.Refusal.{Refusal}
 use Rattle.format.specs.declared.refusal.Refusal.TheVariants.{EntryBroken, StateBroken}
-use Rattle.std.specs.Prelude.{◌≡◌, ℕ, ◌+◌, ◌-◌, ◌/◌, ◌<◌, ◌≤◌, Bool, true, false, eqb, leb, List, length, Ok, Err}
+use Rattle.std.specs.Prelude.{◌≡◌, ℕ, ◌+◌, ◌-◌, ◌/◌, ◌<◌, ◌≤◌, Bool, true, false, eqb, ltb, leb, List, length, Ok, Err}
 use mathlib.Core.Path.{refl, sym, ap, subst, ◌∙◌}
 use mathlib.Core.Logic.{⊎_elim}
 use native.Mathlib.Nat.{eq-or-lt_of_le}
@@ -271,6 +271,15 @@ answered-with t hit c = by_test (eqb (position c.held) t.count) refl
   where
     by_test : (r : Bool) → eqb (position c.held) t.count ≡ r → with_hit hit (Ok (answer_at_of t false c)) ≡ Ok (answer_at_of t hit c)
     by_test true e = rw e
+    by_test false e = rw e
+
+-- .. none told is what `answer_at` says itself
+pub no_hit_told : (t : Term) (c : SegmentPostings) → with_hit false (answering t c) ≡ answering t c
+unfolding with_hit answering ask
+no_hit_told t c = by_test (ltb c.held.place 128) refl
+  where
+    by_test : (r : Bool) → ltb c.held.place 128 ≡ r → with_hit false (answering t c) ≡ answering t c
+    by_test true e = rw e (answered-with t false c)
     by_test false e = rw e
 
 pub with_hit-at : (t : Term) (hit : Bool) (c : SegmentPostings) → c.held.place < 128 → with_hit hit (answering t c) ≡ Ok (answer_at_of t hit c)
