@@ -42,20 +42,21 @@ int main(void) {
     uint64_t occurrences = taken("total", vilthorwy_total(1, 3, image, size, 300));
     printf("documents below 300: %" PRIu64 ", occurrences: %" PRIu64 "\n", below, occurrences);
 
-    /* Seek 8, a step to the end, and there a seek to a mistyped target: by value, and on a lent cursor. */
+    /* Seeks 7 and 8, a step to the end, and there a seek to a mistyped target: by value, and on a lent cursor. */
+    enum { CALLS = 4, PLACES = (CALLS + 1) * VILTHORWY_ANSWER_NUMBERS };
     const uint64_t seek = (uint64_t)1 << 32, on_lent = (uint64_t)2 << 32, mistyped = 2147483648u;
-    const uint64_t by_value[] = {seek + 8, 0, seek + mistyped}, lent[] = {on_lent + seek + 8, on_lent, on_lent + seek + mistyped};
-    enum { PLACES = 4 * VILTHORWY_ANSWER_NUMBERS };
-    uint64_t answers[PLACES], lent_answers[PLACES];
-    n = vilthorwy_run_calls(1, 1, 3, image, size, by_value, 3, answers, PLACES);
-    must(n == 4, "opening and the three calls are answered");
-    must(vilthorwy_run_calls(1, 1, 3, image, size, lent, 3, lent_answers, PLACES) == n, "as many on a lent cursor");
+    const uint64_t by_value[CALLS] = {seek + 7, seek + 8, 0, seek + mistyped};
+    uint64_t lent[CALLS], answers[PLACES], lent_answers[PLACES];
+    for (int i = 0; i < CALLS; i++) lent[i] = on_lent + by_value[i]; /* kinds 2 and 3 for 0 and 1 */
+    n = vilthorwy_run_calls(1, 1, 3, image, size, by_value, CALLS, answers, PLACES);
+    must(n == CALLS + 1, "opening and the four calls are answered");
+    must(vilthorwy_run_calls(1, 1, 3, image, size, lent, CALLS, lent_answers, PLACES) == n, "as many on a lent cursor");
     must(memcmp(answers, lent_answers, sizeof answers) == 0, "the answers are the same");
     const uint64_t *last = answers + PLACES - VILTHORWY_ANSWER_NUMBERS;
     for (const uint64_t *a = answers; a < last; a += VILTHORWY_ANSWER_NUMBERS) {
         must(a[VILTHORWY_REFUSAL_PLACE] == 0, "the call isn't refused");
-        printf("at %" PRIu64 ", frequency %" PRIu64 ", %" PRIu64 " unpacked\n", a[VILTHORWY_DOC_PLACE], a[VILTHORWY_FREQ_PLACE],
-               a[VILTHORWY_UNPACKED_PLACE]);
+        printf("at %" PRIu64 ", frequency %" PRIu64 ", %" PRIu64 " unpacked%s\n", a[VILTHORWY_DOC_PLACE], a[VILTHORWY_FREQ_PLACE],
+               a[VILTHORWY_UNPACKED_PLACE], a[VILTHORWY_HIT_PLACE] ? ", the target itself" : "");
     }
     must(last[VILTHORWY_REFUSAL_PLACE] == VILTHORWY_TARGET_TOO_LARGE, "the mistyped target is refused");
     printf("refused: a target above %u\n", VILTHORWY_TERMINATED);

@@ -21,11 +21,12 @@ unsafe extern "C" {
 }
 
 /// How many numbers an answer of `vilthorwy_run_calls` is, and the places of some of them, as in include/vilthorwy.h.
-const ANSWER_NUMBERS: usize = 5;
+const ANSWER_NUMBERS: usize = 6;
 const REFUSAL_PLACE: usize = 0;
 const DOC_PLACE: usize = 1;
 const FREQ_PLACE: usize = 2;
 const UNPACKED_PLACE: usize = 3;
+const HIT_PLACE: usize = 5;
 /// The document answered behind the last one, and the number under which a target above it is refused.
 const TERMINATED: u32 = 2147483647;
 const TARGET_TOO_LARGE: u64 = 10;
@@ -68,19 +69,21 @@ fn main() {
         let occurrences = taken("total", vilthorwy_total(1, 3, image.as_ptr(), image.len(), 300));
         println!("documents below 300: {below}, occurrences: {occurrences}");
 
-        // Seek 8, a step to the end, and there a seek to a mistyped target: by value, and on a lent cursor.
-        let by_value = [(1u64 << 32) + 8, 0, (1 << 32) + 2147483648];
+        // Seeks 7 and 8, a step to the end, and there a seek to a mistyped target: by value, and on a lent cursor.
+        let seek = 1u64 << 32;
+        let by_value = [seek + 7, seek + 8, 0, seek + 2147483648];
         let lent = by_value.map(|call| (2 << 32) + call); // kinds 2 and 3 for 0 and 1
-        let [mut answers, mut lent_answers] = [[0u64; 4 * ANSWER_NUMBERS]; 2];
+        let [mut answers, mut lent_answers] = [[0u64; 5 * ANSWER_NUMBERS]; 2];
         for (calls, answers) in [(by_value, &mut answers), (lent, &mut lent_answers)] {
-            let n = vilthorwy_run_calls(1, 1, 3, image.as_ptr(), image.len(), calls.as_ptr(), 3, answers.as_mut_ptr(), answers.len());
-            assert_eq!(n, 4, "opening and the three calls are answered");
+            let n = vilthorwy_run_calls(1, 1, 3, image.as_ptr(), image.len(), calls.as_ptr(), 4, answers.as_mut_ptr(), answers.len());
+            assert_eq!(n, 5, "opening and the four calls are answered");
         }
         assert_eq!(answers, lent_answers);
-        let (others, last) = answers.split_at(3 * ANSWER_NUMBERS);
+        let (others, last) = answers.split_at(4 * ANSWER_NUMBERS);
         for answer in others.chunks(ANSWER_NUMBERS) {
             assert_eq!(answer[REFUSAL_PLACE], 0, "the call isn't refused");
-            println!("at {}, frequency {}, {} unpacked", answer[DOC_PLACE], answer[FREQ_PLACE], answer[UNPACKED_PLACE]);
+            let itself = if answer[HIT_PLACE] == 1 { ", the target itself" } else { "" };
+            println!("at {}, frequency {}, {} unpacked{itself}", answer[DOC_PLACE], answer[FREQ_PLACE], answer[UNPACKED_PLACE]);
         }
         assert_eq!(last[REFUSAL_PLACE], TARGET_TOO_LARGE, "the mistyped target is refused");
         println!("refused: a target above {TERMINATED}");

@@ -19,14 +19,15 @@ extern "C" {
 #define VILTHORWY_REFUSED ((uint64_t)1 << 63)
 /* The document answered behind the last one. Ids lie below it. */
 #define VILTHORWY_TERMINATED 2147483647u
-/* How many numbers an answer of vilthorwy_run_calls is, and their places: refusal or 0, document, frequency, blocks unpacked, entries read;
- * with a refusal the others are 0. */
-#define VILTHORWY_ANSWER_NUMBERS 5
+/* How many numbers an answer of vilthorwy_run_calls is, and their places: refusal or 0, document, frequency, blocks unpacked, entries read,
+ * hit; with a refusal the others are 0. */
+#define VILTHORWY_ANSWER_NUMBERS 6
 #define VILTHORWY_REFUSAL_PLACE 0
 #define VILTHORWY_DOC_PLACE 1
 #define VILTHORWY_FREQ_PLACE 2
 #define VILTHORWY_UNPACKED_PLACE 3
 #define VILTHORWY_ENTRIES_PLACE 4
+#define VILTHORWY_HIT_PLACE 5
 
 /* The numbers of the refusals. F is the number of full blocks, count / 128; the tail is the count % 128 documents behind them. */
 enum {
@@ -88,10 +89,12 @@ uint64_t vilthorwy_total(uint8_t mode, uint32_t count, const uint8_t *image, siz
 
 /* Opens a cursor and makes calls on it in order. A call is kind * 2^32 + target; kinds: 0 step, 1 seek, 2 step on a lent cursor, 3 seek on
  * a lent cursor; a step takes no notice of its target. VILTHORWY_ANSWER_NUMBERS numbers are answered for the opening and for each call.
- * After a refusal the next call finds the cursor as it was. At the end the document is 2147483647 and the frequency 0, and a step or a
- * seek stays there; but a seek to a target above 2147483647 is refused under 10 wherever the cursor is, at the end too. Of an image that
- * isn't sound the call is refused that comes to read what is wrong. Returns how many answers were written: one for a refused opening; 0,
- * and nothing written, where answers is shorter than VILTHORWY_ANSWER_NUMBERS * (calls + 1) or a kind is unknown. */
+ * The hit is 1 where a seek's document is the target itself, also if the cursor was on it before, and else 0: of the opening and of a
+ * step always, and at the end, for the target 2147483647 too. After a refusal the next call finds the cursor as it was. At the end the
+ * document is 2147483647 and the frequency 0, and a step or a seek stays there; but a seek to a target above 2147483647 is refused under
+ * 10 wherever the cursor is, at the end too. Of an image that isn't sound the call is refused that comes to read what is wrong. Returns
+ * how many answers were written: one for a refused opening; 0, and nothing written, where answers is shorter than
+ * VILTHORWY_ANSWER_NUMBERS * (calls + 1) or a kind is unknown. */
 uint64_t vilthorwy_run_calls(uint8_t mode, uint8_t requested, uint32_t count, const uint8_t *image, size_t image_len,
                              const uint64_t *calls, size_t calls_len, uint64_t *answers, size_t answers_len);
 

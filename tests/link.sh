@@ -13,6 +13,7 @@ document 7, frequency 2
 document 300, frequency 130
 documents below 300: 2, occurrences: 3
 at 3, frequency 1, 1 unpacked
+at 7, frequency 2, 1 unpacked, the target itself
 at 300, frequency 130, 1 unpacked
 at 2147483647, frequency 0, 1 unpacked
 refused: a target above 2147483647

@@ -149,7 +149,8 @@ impl Run {
     fn worked(&mut self) -> Outcome {
         self_check::worked_lists()?;
         self_check::worked_refusals()?;
-        self_check::worked_calls()?;
+        self_check::worked_too_large()?;
+        self_check::worked_hits()?;
         #[cfg(feature = "linked")]
         writing::check_beginning()?;
         Ok(())

@@ -16,16 +16,19 @@ unsafe extern "C" {
         docs_len: usize,
         freqs: *mut u32,
         freqs_len: usize,
+        hits: *mut u8,
+        hits_len: usize,
     ) -> u64;
 }
 
-/// Seeks in order on one cursor, with the answers in two slices: how many were served.
+/// Seeks in order on one cursor, with what they answer in three slices: how many were served.
 pub fn seeks(
     image: &Image,
     requested: u8,
     targets: &[u32],
     docs: &mut [u32],
     freqs: &mut [u32],
+    hits: &mut [u8],
 ) -> u64 {
     // SAFETY: the slices are as long as is said, and those that are written overlap no other.
     unsafe {
@@ -41,6 +44,8 @@ pub fn seeks(
             docs.len(),
             freqs.as_mut_ptr(),
             freqs.len(),
+            hits.as_mut_ptr(),
+            hits.len(),
         )
     }
 }

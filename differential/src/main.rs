@@ -14,8 +14,11 @@ use differential::linked::Library;
 use differential::reader::{Caller, Reader};
 use differential::reference::Reference;
 
+use crate::seeks::Seeks;
+
 mod damaged;
 mod jobs;
+mod seeks;
 mod self_check;
 mod sound;
 #[cfg(feature = "linked")]
@@ -47,53 +50,12 @@ struct Tally {
     targets: u64,
     call_lists: u64,
     calls: u64,
-    too_large: TooLarge,
+    /// Those among these calls.
+    seeks: Seeks,
     damaged: u64,
     damaged_calls: u64,
     /// Damaged images by the number that admission gives.
     refused: [u64; 10],
-}
-
-/// Seeks to a target above the limit, in lists of calls on sound images: how many before the end, and
-/// how many at it, in each manner.
-#[derive(Clone, Copy, Default)]
-struct TooLarge([[u64; 2]; 3]);
-
-impl TooLarge {
-    const MANNERS: [&'static str; 3] = ["by value", "lent", "on arrays"];
-
-    fn add(&mut self, other: &TooLarge) {
-        for (number, other) in self.0.as_flattened_mut().iter_mut().zip(other.0.as_flattened()) {
-            *number += other;
-        }
-    }
-
-    /// The manners that a run has, with their counts: on arrays only the library of `bench` seeks.
-    fn counted(&self) -> impl Iterator<Item = (&'static str, [u64; 2])> {
-        let manners = if cfg!(feature = "linked-bench") { 3 } else { 2 };
-        Self::MANNERS.into_iter().zip(self.0).take(manners)
-    }
-
-    /// Whether each manner had such seeks, before the end and at it.
-    fn all_tried(&self) -> Outcome {
-        match self.counted().find(|(_, counts)| counts.contains(&0)) {
-            None => Ok(()),
-            Some((manner, [before, at])) => {
-                let seeks = "seeks to too large a target";
-                Err(format!("NOT TRIED: {seeks} {manner}: {before} before the end, {at} at it"))
-            }
-        }
-    }
-}
-
-impl fmt::Display for TooLarge {
-    fn fmt(&self, f: &mut fmt::Formatter) -> fmt::Result {
-        let counts: Vec<String> = self
-            .counted()
-            .map(|(manner, [before, at])| format!("{before} and {at} {manner}"))
-            .collect();
-        write!(f, "  seeks to too large a target, before the end and at it: {}", counts.join(", "))
-    }
 }
 
 impl Tally {
@@ -103,7 +65,7 @@ impl Tally {
         self.targets += other.targets;
         self.call_lists += other.call_lists;
         self.calls += other.calls;
-        self.too_large.add(&other.too_large);
+        self.seeks.add(&other.seeks);
         self.damaged += other.damaged;
         self.damaged_calls += other.damaged_calls;
         for (number, refused) in self.refused.iter_mut().zip(other.refused) {
@@ -117,7 +79,7 @@ impl fmt::Display for Tally {
         writeln!(f, "  {} lists written", self.written)?;
         writeln!(f, "  {} sound images read, {} targets ranked", self.images, self.targets)?;
         writeln!(f, "  {} lists of {} calls", self.call_lists, self.calls)?;
-        writeln!(f, "{}", self.too_large)?;
+        writeln!(f, "{}", self.seeks)?;
         write!(f, "  {} damaged images with {} calls;", self.damaged, self.damaged_calls)?;
         for (number, refused) in self.refused.iter().enumerate() {
             write!(f, " {refused} are {number}{}", if number < 9 { "," } else { "" })?;
@@ -139,7 +101,7 @@ fn main() -> ExitCode {
     let (tally, outcome) = jobs::run(seed, long);
     println!("cases:\n{tally}");
     let outcome = outcome.map_err(|difference| format!("DIFFERENT: {difference}"));
-    match outcome.and_then(|()| tally.too_large.all_tried()) {
+    match outcome.and_then(|()| tally.seeks.all_tried()) {
         Ok(()) => {
             println!("no difference");
             ExitCode::SUCCESS

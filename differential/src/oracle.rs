@@ -100,41 +100,52 @@ impl Opener {
     /// The answer to opening and to each call.
     pub fn calls(&self, requested: u8, calls: &[Call]) -> Vec<Shown> {
         let mut cursor = self.open(requested);
-        let mut shown = vec![self.show(&cursor)];
+        let mut shown = vec![self.show(&cursor, None)];
         for &call in calls {
             make(call, &mut cursor);
-            shown.push(self.show(&cursor));
+            shown.push(self.show(&cursor, Some(call)));
         }
         shown
     }
 
-    fn show(&self, cursor: &SegmentPostings) -> Shown {
-        let (doc, freq) = answer(cursor);
+    fn show(&self, cursor: &SegmentPostings, call: Option<Call>) -> Shown {
+        let (doc, freq, hit) = answer(cursor, call);
         let held = &cursor.block_cursor;
         assert!(held.block_is_loaded());
-        Shown { doc, freq, block: (self.count - held.skip_reader().remaining_docs()) / 128 }
+        Shown { doc, freq, hit, block: (self.count - held.skip_reader().remaining_docs()) / 128 }
     }
 
-    /// Calls and answers as `exports` has them, of which the Rust knows document and frequency.
+    /// Calls and answers as `exports` has them, of which the Rust has document, frequency and hit.
     pub fn run_calls(&self, requested: u8, calls: &[u64], answers: &mut [u64]) {
         let mut cursor = self.open(requested);
         let mut answers = answers.chunks_exact_mut(ANSWER_NUMBERS);
-        let mut put = |(doc, freq): (u32, u32)| {
-            answers.next().unwrap().copy_from_slice(&[0, doc.into(), freq.into(), 0, 0]);
+        let mut put = |(doc, freq, hit): (u32, u32, bool)| {
+            let numbers = [0, doc.into(), freq.into(), 0, 0, hit.into()];
+            answers.next().unwrap().copy_from_slice(&numbers);
         };
-        put(answer(&cursor));
+        put(answer(&cursor, None));
         for &call in calls {
-            make(Call::from_number(call).unwrap(), &mut cursor);
-            put(answer(&cursor));
+            let call = Call::from_number(call).unwrap();
+            make(call, &mut cursor);
+            put(answer(&cursor, Some(call)));
         }
     }
 
-    /// Seeks in order, with the documents and the frequencies that they come to in two slices.
-    pub fn seek_into(&self, requested: u8, targets: &[u32], docs: &mut [u32], freqs: &mut [u32]) {
+    /// Seeks in order, with what they answer in three slices: documents, frequencies and hits.
+    pub fn seek_into(
+        &self,
+        requested: u8,
+        targets: &[u32],
+        docs: &mut [u32],
+        freqs: &mut [u32],
+        hits: &mut [u8],
+    ) {
         let mut cursor = self.open(requested);
-        for ((&target, doc), freq) in targets.iter().zip(docs).zip(freqs) {
-            make(Call::Seek(target), &mut cursor);
-            (*doc, *freq) = answer(&cursor);
+        for (((&target, doc), freq), hit) in targets.iter().zip(docs).zip(freqs).zip(hits) {
+            let call = Call::Seek(target);
+            make(call, &mut cursor);
+            let (found_doc, found_freq, found_hit) = answer(&cursor, Some(call));
+            (*doc, *freq, *hit) = (found_doc, found_freq, found_hit.into());
         }
     }
 
@@ -161,6 +172,7 @@ impl Opener {
 pub struct Shown {
     pub doc: u32,
     pub freq: u32,
+    pub hit: bool,
     /// The number of the block that is held, all of whose values are unpacked.
     pub block: u32,
 }
@@ -176,12 +188,16 @@ fn make(call: Call, cursor: &mut SegmentPostings) {
     };
 }
 
-/// The document and its frequency; at the end 0, as document 01 has it, since the Rust shows what
-/// an earlier document left there.
+/// The document, its frequency, and whether it is the target of the seek that came to it. At the end
+/// the frequency is 0, as document 01 has it, since the Rust shows what an earlier document left there.
+/// The Rust's seek doesn't say that it has hit: whoever calls it compares its document with the target.
 #[inline]
-fn answer(cursor: &SegmentPostings) -> (u32, u32) {
+fn answer(cursor: &SegmentPostings, call: Option<Call>) -> (u32, u32, bool) {
     match cursor.doc() {
-        TERMINATED => (TERMINATED, 0),
-        doc => (doc, cursor.term_freq()),
+        TERMINATED => (TERMINATED, 0, false),
+        doc => {
+            let hit = matches!(call, Some(Call::Seek(target)) if target == doc);
+            (doc, cursor.term_freq(), hit)
+        }
     }
 }

@@ -37,13 +37,19 @@ pub trait Reader: Sync {
     fn total(&self, image: &Image, target: u32) -> Answer;
 }
 
-/// Numbers in an answer: the refusal's or 0, document, frequency, blocks unpacked, entries read.
-pub const ANSWER_NUMBERS: usize = 5;
+/// Numbers in an answer: the refusal's or 0, document, frequency, blocks unpacked, entries read, hit:
+/// 1 where a seek's document is the target itself, else 0.
+pub const ANSWER_NUMBERS: usize = 6;
+pub const REFUSAL_PLACE: usize = 0;
+pub const DOC_PLACE: usize = 1;
+pub const FREQ_PLACE: usize = 2;
+pub const ENTRIES_PLACE: usize = 4;
+pub const HIT_PLACE: usize = 5;
 
 /// The answer of a refusal.
 pub fn refused(number: u64) -> [u64; ANSWER_NUMBERS] {
     let mut answer = [0; ANSWER_NUMBERS];
-    answer[0] = number;
+    answer[REFUSAL_PLACE] = number;
     answer
 }
 

@@ -1,6 +1,6 @@
-//! Document 01 read once more, with document 02's Ask 10: what stands in an image, and which question
-//! it fails first. Plain code of its own, in the order of the questions; it knows neither the Rust nor
-//! the library.
+//! Document 01 read once more, with document 02's Asks 2 and 10: what stands in an image, and which
+//! question it fails first. Plain code of its own, in the order of the questions; it knows neither the
+//! Rust nor the library.
 
 use crate::reader::{refused, Answer, Call, Caller, Image, Reader, ANSWER_NUMBERS};
 
@@ -265,10 +265,11 @@ impl<'a> Cursor<'a> {
         self.land(self.block + 1, 1)
     }
 
-    fn seek(&mut self, target: u32) -> Asked<()> {
+    /// Whether the document that it comes to is the target itself.
+    fn seek(&mut self, target: u32) -> Asked<bool> {
         ask(target <= END, 10)?;
         if self.at_the_end() {
-            return Ok(());
+            return Ok(false);
         }
         if self.block < self.laid.full && self.held.docs[127] < target {
             let mut block = self.block + 1;
@@ -286,7 +287,7 @@ impl<'a> Cursor<'a> {
         while self.place < self.held.docs.len() && self.held.docs[self.place] < target {
             self.place += 1;
         }
-        Ok(())
+        Ok(!self.at_the_end() && self.doc() == target)
     }
 }
 
@@ -331,9 +332,13 @@ fn total(image: &Image, target: u32) -> Asked<u64> {
     Ok(sum)
 }
 
-fn answer(asked: Asked<()>, cursor: &Cursor) -> [u64; ANSWER_NUMBERS] {
+/// The answer to a call that has hit or not, or that is refused.
+fn answer(asked: Asked<bool>, cursor: &Cursor) -> [u64; ANSWER_NUMBERS] {
     match asked {
-        Ok(()) => [0, cursor.doc().into(), cursor.freq().into(), cursor.unpacked, cursor.entries],
+        Ok(hit) => {
+            let (doc, freq) = (cursor.doc().into(), cursor.freq().into());
+            [0, doc, freq, cursor.unpacked, cursor.entries, hit.into()]
+        }
         Err(number) => refused(number.into()),
     }
 }
@@ -344,10 +349,11 @@ fn answers(image: &Image, requested: u8, calls: &[Call]) -> Vec<[u64; ANSWER_NUM
         Ok(cursor) => cursor,
         Err(number) => return vec![refused(number.into())],
     };
-    let mut answers = vec![answer(Ok(()), &cursor)];
+    // Only a seek has a target to hit.
+    let mut answers = vec![answer(Ok(false), &cursor)];
     for call in calls {
         let asked = match *call {
-            Call::Step => cursor.step(),
+            Call::Step => cursor.step().map(|()| false),
             Call::Seek(target) => cursor.seek(target),
         };
         answers.push(answer(asked, &cursor));

@@ -3,7 +3,7 @@
 
 use differential::lists::List;
 use differential::oracle::{self, Opener, TERMINATED};
-use differential::reader::{refused, Image};
+use differential::reader::{refused, Image, ANSWER_NUMBERS};
 
 use crate::{equal, Bytes, Outcome, CALLERS, READERS};
 
@@ -38,34 +38,79 @@ pub fn worked_lists() -> Outcome {
     equal(|| "worked list without frequencies".into(), found, vec![(3, 1), (7, 1), (300, 1)])
 }
 
+/// Calls by value, on a lent cursor where `LENT` is added.
+const STEP: u64 = 0;
+const SEEK: u64 = 1 << 32;
+const LENT: u64 = 2 << 32;
+
+type Numbers = [u64; ANSWER_NUMBERS];
+
+const AT_THE_END: Numbers = [0, 2147483647, 0, 1, 0, 0];
+
+/// The ids 3, 7, 300 with the frequencies 1, 2, 130.
+fn worked_image() -> Image {
+    Image { mode: 1, count: 3, bytes: vec![0x83, 0x84, 0x25, 0x82, 0x81, 0x82, 0x02, 0x81] }
+}
+
 /// Document 02's Ask 10 in numbers: a target that is too large, before the end and at it, by value and
-/// on a lent cursor, on the ids 3, 7, 300 and on the empty list.
-pub fn worked_calls() -> Outcome {
-    let (seek, lent) = (1 << 32, 2 << 32);
+/// on a lent cursor, on the worked list and on the empty one.
+pub fn worked_too_large() -> Outcome {
     let too_large = refused(10);
-    let end = [0, 2147483647, 0, 1, 0];
-    let bytes = vec![0x83, 0x84, 0x25, 0x82, 0x81, 0x82, 0x02, 0x81];
-    let lists = [(1, 3, bytes, [0, 3, 1, 1, 0]), (1, 0, vec![], end), (0, 0, vec![], end)];
-    for (mode, count, bytes, first) in lists {
-        let image = Image { mode, count, bytes };
-        let calls = [
-            (seek + 2147483648, too_large),
-            (lent + seek + 2147483648, too_large),
-            (seek + 301, end),
-            (seek + 2147483648, too_large),
-            (lent + seek + 4294967295, too_large),
-            (lent + seek + 2147483647, end),
-            (0, end),
-        ];
-        let numbers = calls.map(|(call, _)| call);
-        let wanted: Vec<u64> =
-            [first].into_iter().chain(calls.map(|(_, answer)| answer)).flatten().collect();
-        for caller in CALLERS {
-            let mut found = vec![7; wanted.len()];
-            let many = caller.run_calls(&image, 1, &numbers, &mut found);
-            let what = || format!("{}, worked calls\n  of {image}", caller.name());
-            equal(what, (many, &found), (1 + calls.len() as u64, &wanted))?;
-        }
+    let calls = [
+        (SEEK + 2147483648, too_large),
+        (LENT + SEEK + 2147483648, too_large),
+        (SEEK + 301, AT_THE_END),
+        (SEEK + 2147483648, too_large),
+        (LENT + SEEK + 4294967295, too_large),
+        (LENT + SEEK + 2147483647, AT_THE_END),
+        (STEP, AT_THE_END),
+    ];
+    answered(&worked_image(), [0, 3, 1, 1, 0, 0], &calls)?;
+    for mode in [1, 0] {
+        answered(&Image { mode, count: 0, bytes: vec![] }, AT_THE_END, &calls)?;
+    }
+    Ok(())
+}
+
+/// Document 02's Ask 2 in numbers: targets that are there and beside, ahead, at the present document,
+/// behind it and at the end; and 2147483647, which the largest id is beside.
+pub fn worked_hits() -> Outcome {
+    let [at_7, at_300] = [|hit| [0, 7, 2, 1, 0, hit], |hit| [0, 300, 130, 1, 0, hit]];
+    let calls = [
+        (SEEK + 3, [0, 3, 1, 1, 0, 1]),
+        (LENT + SEEK + 4, at_7(0)),
+        (SEEK + 7, at_7(1)),
+        (LENT + SEEK + 6, at_7(0)),
+        (LENT + SEEK + 7, at_7(1)),
+        (LENT + STEP + 300, at_300(0)),
+        (LENT + SEEK + 300, at_300(1)),
+        (SEEK + 299, at_300(0)),
+        (SEEK + 7, at_300(0)),
+        (STEP, AT_THE_END),
+        (SEEK + 300, AT_THE_END),
+        (LENT + SEEK + 2147483647, AT_THE_END),
+    ];
+    answered(&worked_image(), [0, 3, 1, 1, 0, 0], &calls)?;
+    let image = Image { mode: 0, count: 1, bytes: vec![0x7E, 0x7F, 0x7F, 0x7F, 0x87] };
+    let at_largest = |hit| [0, 2147483646, 1, 1, 0, hit];
+    let calls = [
+        (LENT + SEEK + 2147483645, at_largest(0)),
+        (SEEK + 2147483646, at_largest(1)),
+        (SEEK + 2147483647, AT_THE_END),
+        (SEEK + 2147483647, AT_THE_END),
+    ];
+    answered(&image, at_largest(0), &calls)
+}
+
+/// Opening has the first answer, each call its own.
+fn answered(image: &Image, first: Numbers, calls: &[(u64, Numbers)]) -> Outcome {
+    let (calls, answers): (Vec<u64>, Vec<Numbers>) = calls.iter().copied().unzip();
+    let wanted = [vec![first], answers].concat().concat();
+    for caller in CALLERS {
+        let mut found = vec![7; wanted.len()];
+        let many = caller.run_calls(image, 1, &calls, &mut found);
+        let what = || format!("{}, worked calls\n  of {image}", caller.name());
+        equal(what, (many, &found), (1 + calls.len() as u64, &wanted))?;
     }
     Ok(())
 }

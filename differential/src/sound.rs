@@ -6,9 +6,12 @@ use differential::images::{odd_image, Style};
 use differential::linked_bench;
 use differential::lists::{List, Rng};
 use differential::oracle::{self, Opener, TERMINATED};
-use differential::reader::{Call, Caller, Image, Reader, ANSWER_NUMBERS};
+use differential::reader::{Call, Caller, Image, Reader, ANSWER_NUMBERS, ENTRIES_PLACE, HIT_PLACE};
+#[cfg(feature = "linked-bench")]
+use differential::reader::{DOC_PLACE, FREQ_PLACE, REFUSAL_PLACE};
 
-use crate::{equal, Bytes, Outcome, Tally, TooLarge, CALLERS, READERS};
+use crate::seeks::{Manner, Seeks};
+use crate::{equal, Bytes, Outcome, Tally, CALLERS, READERS};
 
 /// The written image, one in the non-strict form and one of any kind: whole readings, ranks, totals
 /// and lists of calls.
@@ -42,6 +45,9 @@ fn check_image(list: &List, image: &Image, rng: &mut Rng, tally: &mut Tally) -> 
         check_calls(image, &opener, requested, &documents, &calls, tally)?;
     }
     counts(list, image, &opener, rng, tally)?;
+    seeks_beside(list, image, &opener, rng, tally)?;
+    #[cfg(feature = "linked-bench")]
+    unserved(image)?;
     CALLERS.iter().try_for_each(|caller| unanswered(*caller, image))
 }
 
@@ -95,6 +101,43 @@ pub fn unwritten(places: std::ops::Range<usize>) -> Vec<(u32, u32)> {
     places.map(|place| (!number(place), number(place))).collect()
 }
 
+/// The targets one below each id, those at it, and those one above.
+fn beside(ids: &[u32]) -> [Vec<u32>; 3] {
+    [0, 1, 2].map(|more| ids.iter().map(|id| (id + more).saturating_sub(1)).collect())
+}
+
+/// Seeks one below every id, at every id, one above every id, and all of these in order: four lists of
+/// calls, each of them continued to the end and at it. Up to there the targets don't fall, so that a
+/// seek hits exactly where the list has its target.
+fn seeks_beside(
+    list: &List,
+    image: &Image,
+    opener: &Opener,
+    rng: &mut Rng,
+    tally: &mut Tally,
+) -> Outcome {
+    let requested = rng.below(3) as u8;
+    let documents = documents(list, requested);
+    let at_the_end = [TERMINATED, list.ids.last().copied().unwrap_or(0), TERMINATED];
+    let beside = beside(&list.ids);
+    let mut all = beside.concat();
+    all.sort();
+    for mut targets in beside.into_iter().chain([all]) {
+        let listed = |target| u64::from(list.ids.binary_search(target).is_ok());
+        let mut hits: Vec<u64> = targets.iter().map(listed).collect();
+        targets.extend(at_the_end);
+        hits.extend(at_the_end.map(|_| 0));
+        let seeks: Vec<Call> = targets.iter().copied().map(Call::Seek).collect();
+        let answers = book(&documents, &seeks);
+        let found = answers[1..].iter().map(|answer| answer[HIT_PLACE]).collect();
+        equal(|| format!("book, hits of {targets:?}"), found, hits)?;
+        let mut number = |target: &u32| (1 + 2 * rng.below(2)) << 32 | u64::from(*target);
+        let calls: Vec<u64> = targets.iter().map(&mut number).collect();
+        check_calls(image, opener, requested, &documents, &calls, tally)?;
+    }
+    Ok(())
+}
+
 /// Ranks and totals at every id and beside it.
 fn counts(
     list: &List,
@@ -103,8 +146,7 @@ fn counts(
     rng: &mut Rng,
     tally: &mut Tally,
 ) -> Outcome {
-    let beside = |id: &u32| [id.saturating_sub(1), *id, id + 1];
-    let mut targets: Vec<u32> = list.ids.iter().flat_map(beside).collect();
+    let mut targets = beside(&list.ids).concat();
     targets.extend([0, 1, TERMINATED - 1, TERMINATED]);
     targets.sort();
     targets.dedup();
@@ -179,9 +221,9 @@ pub fn some_calls(rng: &mut Rng, ids: &[u32]) -> Vec<u64> {
     (0..length).map(|_| call(by_step)).collect()
 }
 
-/// A list of calls: each answer is the book's, and document, frequency and number of blocks held so
-/// far are the Rust's. With `linked-bench` its seeks are made on two arrays as well. A difference is
-/// told of as few calls as show it.
+/// A list of calls: each answer is the book's, and document, frequency, number of blocks held so far
+/// and hit are the Rust's. With `linked-bench` its seeks are made on two arrays as well. A difference
+/// is told of as few calls as show it.
 pub fn check_calls(
     image: &Image,
     opener: &Opener,
@@ -194,8 +236,8 @@ pub fn check_calls(
     tally.calls += calls.len() as u64;
     let check = |calls: &[u64]| compare_calls(image, opener, requested, documents, calls);
     let mut difference = match check(calls) {
-        Ok(too_large) => {
-            tally.too_large.add(&too_large);
+        Ok(seeks) => {
+            tally.seeks.add(&seeks);
             return Ok(());
         }
         Err(difference) => difference,
@@ -224,7 +266,7 @@ fn compare_calls(
     requested: u8,
     documents: &[(u32, u32)],
     numbers: &[u64],
-) -> Result<TooLarge, String> {
+) -> Result<Seeks, String> {
     let calls: Vec<Call> = numbers.iter().map(|call| Call::from_number(*call).unwrap()).collect();
     let wanted = book(documents, &calls);
     rust_calls(opener, requested, &calls, &wanted)?;
@@ -240,42 +282,23 @@ fn compare_calls(
         let behind = behind.map(|number| number + length as u64);
         equal(|| format!("{name}, behind"), &found[length..], &behind.collect::<Vec<u64>>()[..])?;
     }
-    let [by_value, lent] = too_large(numbers, &wanted);
+    let manners = numbers.iter().map(|number| Manner::of_call(*number));
+    let mut seeks = Seeks::default();
+    seeks.count(manners.zip(calls.iter().copied()), &wanted);
     #[cfg(feature = "linked-bench")]
-    let on_arrays = on_arrays(image, requested, documents, &calls)?;
-    #[cfg(not(feature = "linked-bench"))]
-    let on_arrays = [0; 2];
-    Ok(TooLarge([by_value, lent, on_arrays]))
+    on_arrays(image, requested, documents, &calls, &mut seeks)?;
+    Ok(seeks)
 }
 
-fn ended(answer: &[u64; ANSWER_NUMBERS]) -> bool {
-    answer[1] == u64::from(TERMINATED)
-}
-
-/// How many calls by value, and how many on a lent cursor, seek a target above the limit: before the
-/// end, and at it. They move nothing, so the last answer of another call tells where they are.
-fn too_large(numbers: &[u64], answers: &[[u64; ANSWER_NUMBERS]]) -> [[u64; 2]; 2] {
-    let mut counts = [[0; 2]; 2];
-    let mut at_the_end = ended(&answers[0]);
-    for (number, answer) in numbers.iter().zip(&answers[1..]) {
-        if Call::from_number(*number).is_some_and(Call::too_large) {
-            counts[(number >> 33) as usize][usize::from(at_the_end)] += 1;
-        } else {
-            at_the_end = ended(answer);
-        }
-    }
-    counts
-}
-
-/// The seeks alone, on two lent arrays in the library's own loop, which ends at the first refusal. How
-/// many were refused, before the end and at it.
+/// The seeks alone, on two lent arrays in the library's own loop, which ends at the first refusal.
 #[cfg(feature = "linked-bench")]
 fn on_arrays(
     image: &Image,
     requested: u8,
     documents: &[(u32, u32)],
     calls: &[Call],
-) -> Result<[u64; 2], String> {
+    tried: &mut Seeks,
+) -> Outcome {
     let target = |call: &Call| match call {
         Call::Seek(target) => Some(*target),
         Call::Step => None,
@@ -283,21 +306,61 @@ fn on_arrays(
     let targets: Vec<u32> = calls.iter().filter_map(target).collect();
     let seeks: Vec<Call> = targets.iter().copied().map(Call::Seek).collect();
     let answers = book(documents, &seeks);
-    let served = answers[1..].iter().take_while(|answer| answer[0] == 0).count();
-    let mut wanted = unwritten(0..targets.len());
+    let served = answers[1..].iter().take_while(|answer| answer[REFUSAL_PLACE] == 0).count();
+    let length = targets.len() + 2;
+    let mut wanted = unstored(length);
     // Of opening nothing is stored.
     for (place, answer) in wanted.iter_mut().zip(&answers[1..=served]) {
-        *place = (answer[1] as u32, answer[2] as u32);
+        let [doc, freq] = [DOC_PLACE, FREQ_PLACE].map(|place| answer[place] as u32);
+        *place = ((doc, freq), answer[HIT_PLACE] as u8);
     }
-    let (mut docs, mut freqs): (Vec<u32>, Vec<u32>) =
-        unwritten(0..targets.len()).into_iter().unzip();
-    let found = linked_bench::seeks(image, requested, &targets, &mut docs, &mut freqs);
+    let (found, stored) = seeks_into(image, requested, &targets, [length; 3]);
     let what = |what| format!("on arrays, seeks {targets:?}, {what}");
     equal(|| what("how many are served"), found, served as u64)?;
-    equal(|| what("what is stored"), docs.into_iter().zip(freqs).collect(), wanted)?;
-    let mut refused = [0; 2];
-    refused[usize::from(ended(&answers[served]))] = u64::from(served < targets.len());
-    Ok(refused)
+    equal(|| what("what is stored"), stored, wanted)?;
+    let made = seeks.into_iter().take(served + 1);
+    tried.count(made.map(|seek| (Manner::OnArrays, seek)), &answers);
+    Ok(())
+}
+
+/// No seek on arrays is served, nor anything stored, where one of the slices is too short.
+#[cfg(feature = "linked-bench")]
+fn unserved(image: &Image) -> Outcome {
+    for short in 0..3 {
+        let mut lengths = [3; 3];
+        lengths[short] = 2;
+        let found = seeks_into(image, 1, &[0, 1, 2], lengths);
+        equal(|| format!("on arrays, into {lengths:?}"), found, (0, unstored(2)))?;
+    }
+    Ok(())
+}
+
+/// A document with its frequency, and whether it was a hit.
+#[cfg(feature = "linked-bench")]
+type Stored = ((u32, u32), u8);
+
+/// On arrays, into slices of these lengths. What stands in them afterwards, side by side.
+#[cfg(feature = "linked-bench")]
+fn seeks_into(
+    image: &Image,
+    requested: u8,
+    targets: &[u32],
+    lengths: [usize; 3],
+) -> (u64, Vec<Stored>) {
+    let before = unstored(lengths.into_iter().max().unwrap_or(0));
+    let ((mut docs, mut freqs), mut hits): ((Vec<u32>, Vec<u32>), Vec<u8>) =
+        before.into_iter().unzip();
+    docs.truncate(lengths[0]);
+    freqs.truncate(lengths[1]);
+    hits.truncate(lengths[2]);
+    let served = linked_bench::seeks(image, requested, targets, &mut docs, &mut freqs, &mut hits);
+    (served, docs.into_iter().zip(freqs).zip(hits).collect())
+}
+
+/// What the slices hold before they are lent. No hit is 2 or more.
+#[cfg(feature = "linked-bench")]
+fn unstored(length: usize) -> Vec<Stored> {
+    unwritten(0..length).into_iter().zip((2..=255).cycle()).collect()
 }
 
 /// Nothing is answered, nor anything written, where answers have no room or a kind is unknown.
@@ -332,8 +395,11 @@ fn rust_calls(
     let mut held = std::collections::BTreeSet::new();
     for ((at, wanted), shown) in wanted.zip(shown) {
         held.insert(shown.block);
-        let found = [0, shown.doc.into(), shown.freq.into(), held.len() as u64];
-        equal(|| format!("Rust, answer {at}"), &found[..], &wanted[..4])?;
+        let (doc, freq) = (shown.doc.into(), shown.freq.into());
+        // Entries read it doesn't count.
+        let entries = wanted[ENTRIES_PLACE];
+        let found = [0, doc, freq, held.len() as u64, entries, shown.hit.into()];
+        equal(|| format!("Rust, answer {at}"), &found, wanted)?;
     }
     Ok(())
 }

@@ -134,7 +134,7 @@ fn read(list: &List, image: &Image, opener: &Opener) {
 }
 
 /// Both sides take the same calls and fill the same answers, ANSWER_NUMBERS each, of which the Rust
-/// knows document and frequency.
+/// has document, frequency and hit.
 #[cfg_attr(not(feature = "linked-calls"), allow(unused_variables))]
 fn seek(image: &Image, opener: &Opener, targets: &[u32]) {
     let seeks = |kind: u64| -> Vec<u64> {
@@ -147,6 +147,7 @@ fn seek(image: &Image, opener: &Opener, targets: &[u32]) {
     report("seek", SEEKS, &mut [("Rust", &mut rust)]);
     #[cfg(feature = "linked-calls")]
     {
+        use differential::reader::{DOC_PLACE, FREQ_PLACE, HIT_PLACE, REFUSAL_PLACE};
         let lent = seeks(3);
         let [mut found, mut found_lent] = [(); 2].map(|_| vec![0; ANSWER_NUMBERS * (1 + SEEKS)]);
         let mut library = || {
@@ -164,24 +165,30 @@ fn seek(image: &Image, opener: &Opener, targets: &[u32]) {
         for found in [&found, &found_lent] {
             for (found, wanted) in found.chunks(ANSWER_NUMBERS).zip(answers.chunks(ANSWER_NUMBERS))
             {
-                assert!(found[..3] == wanted[..3], "the answers differ");
+                let of_both = |answer: &[u64]| {
+                    [REFUSAL_PLACE, DOC_PLACE, FREQ_PLACE, HIT_PLACE].map(|place| answer[place])
+                };
+                assert!(of_both(found) == of_both(wanted), "the answers differ");
             }
         }
     }
 }
 
 /// The library's seeks as its own loops make them, without a copy of the cursor: both sides store
-/// document and frequency of each answer in two slices.
+/// document, frequency and hit of each answer in three slices.
 #[cfg(feature = "linked-bench")]
 fn seek_on_core(image: &Image, opener: &Opener, targets: &[u32]) {
     use differential::linked_bench::seeks;
     let [mut docs, mut freqs, mut found_docs, mut found_freqs] = [(); 4].map(|_| vec![0; SEEKS]);
-    let mut rust = || opener.seek_into(1, targets, &mut docs, &mut freqs);
+    let [mut hits, mut found_hits] = [(); 2].map(|_| vec![0; SEEKS]);
+    let mut rust = || opener.seek_into(1, targets, &mut docs, &mut freqs, &mut hits);
     let mut core = || {
-        assert_eq!(seeks(image, 1, targets, &mut found_docs, &mut found_freqs), SEEKS as u64);
+        let [docs, freqs] = [&mut found_docs, &mut found_freqs];
+        assert_eq!(seeks(image, 1, targets, docs, freqs, &mut found_hits), SEEKS as u64);
     };
-    report("seek into two slices", SEEKS, &mut [("Rust", &mut rust), ("core", &mut core)]);
-    assert!((&found_docs, &found_freqs) == (&docs, &freqs), "the answers differ");
+    report("seek into three slices", SEEKS, &mut [("Rust", &mut rust), ("core", &mut core)]);
+    let found = (&found_docs, &found_freqs, &found_hits);
+    assert!(found == (&docs, &freqs, &hits), "the answers differ");
 }
 
 type Side<'a> = (&'a str, &'a mut dyn FnMut());
