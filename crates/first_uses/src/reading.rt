@@ -11,11 +11,13 @@ use std::io;
 // One above the largest target that a seek takes.
 const MISTYPED: u32 = 2147483648;
 
-// A cursor by value: the first document, the next, the first at or above 300, and what stands there.
+// A cursor by value: the first document, the next, the first at or above 8, which isn't 8 itself, 300 itself, and what stands there.
 pub(crate) fn walk(rt: &impl Print, image: &[u8], term: Term) -> io::Result<()> {
     let opened = open(image, term);
     tell_answer(rt, opened.answer)?;
     let moved = advance(opened.cursor, image, term);
+    tell_answer(rt, moved.answer)?;
+    let moved = seek(moved.cursor, image, term, 8);
     tell_answer(rt, moved.answer)?;
     let moved = seek(moved.cursor, image, term, 300);
     tell_answer(rt, moved.answer)?;
@@ -34,16 +36,21 @@ pub(crate) fn walk_lent(rt: &impl Print, image: &[u8], term: Term) -> io::Result
     tell_answer(rt, moved.answer)
 }
 
-// A step and a seek on the caller's own two arrays, from the first document on: what stands where each came to.
+// A step and a seek on the caller's own two arrays, from the first document on: what stands where each came to, and whether 300 is there.
 fn step_and_seek(image: &[u8], term: Term) -> Result<(Answer, Answer), Refusal> {
     let mut docs = [TERMINATED; 128];
     let mut freqs = [1; 128];
     let held = open_in(image, term, &mut docs, &mut freqs)?;
     let held = advance_in(held, image, term, &mut docs, &mut freqs)?;
     let stepped = answer_at(held, term, &docs, &freqs)?;
-    let held = seek_in(held, image, term, 300, &mut docs, &mut freqs)?;
-    let sought = answer_at(held, term, &docs, &freqs)?;
-    Ok((stepped, sought))
+    let sought = seek_in(held, image, term, 300, &mut docs, &mut freqs)?;
+    let there = answer_at(sought.held, term, &docs, &freqs)?;
+    // `answer_at` has no target; the seek told its hit.
+    let found = Answer {
+        hit: sought.hit,
+        ..there
+    };
+    Ok((stepped, found))
 }
 
 // No cursor is copied where the caller holds its arrays, and its numbers beside them.
@@ -104,7 +111,7 @@ pub(crate) fn mistype_arrays(rt: &impl Print, image: &[u8], term: Term) -> io::R
     };
     mistype_on(rt, first, image, term, &mut docs, &mut freqs)?;
     let end = match seek_in(first, image, term, TERMINATED, &mut docs, &mut freqs) {
-        Ok(held) => held,
+        Ok(sought) => sought.held,
         Err(refusal) => return tell_refusal(rt, refusal),
     };
     mistype_on(rt, end, image, term, &mut docs, &mut freqs)

@@ -20,7 +20,8 @@ pub(crate) fn tell_answer(rt: &impl Print, answer: Result<Answer, Refusal>) -> i
             tell(rt, "document", at.doc as u64)?;
             tell(rt, "frequency", at.freq as u64)?;
             tell(rt, "unpacked", at.unpacked as u64)?;
-            tell(rt, "entries", at.entries as u64)
+            tell(rt, "entries", at.entries as u64)?;
+            tell(rt, "hit", u64::from(at.hit))
         }
         Err(refusal) => tell_refusal(rt, refusal),
     }

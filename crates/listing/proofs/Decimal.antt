@@ -1,6 +1,7 @@
 -- The fewest digits to the base 10 that hold a number are its decimal digits. By induction on how many they are: all but the last are
 -- those of a tenth of the number. A line of three numbers has 63 bytes at most.
 -- Assumes nothing.
+use mathlib.Core.Bool.{Bool}
 use mathlib.Core.List.{[], ◌∷◌, ◌++◌}
 use mathlib.Core.Path.{◌≡◌, refl, sym}
 use Prim.Native.Nat.{ℕ, zero, suc, ◌+◌, ◌-◌, ◌*◌, ◌/◌, ◌%◌, ◌≤◌, ◌<◌, ◌^◌}
@@ -70,16 +71,16 @@ pub field-most : (n b : ℕ) → length (field n b) ≤ 21
 unfolding field decimal
 field-most n b = rw length-append (omega (arith, decimal_f-most 19 n))
 
-pub line-is : (d f u : ℕ) → line (model.at d f u) ≡ field d 32 ++ (field f 32 ++ field u 10)
+pub line-is : (d f u : ℕ) (hit : Bool) → line (model.at d f u hit) ≡ field d 32 ++ (field f 32 ++ field u 10)
 unfolding line
-line-is d f u = refl
+line-is d f u hit = refl
 
 pub line-none : (n : Refusal) → line (model.refused n) ≡ []
 unfolding line
 line-none n = refl
 
 pub line-most : (a : Answer) → length (line a) ≤ 63
-line-most (model.at d f u) =
+line-most (model.at d f u hit) =
     rw (line-is, length-append, length-append) (omega (arith, field-most d 32, field-most f 32, field-most u 10))
 line-most (model.refused n) = rw line-none (omega arith)
 

@@ -61,7 +61,7 @@ pub puts-line : {a : Answer} {at next last r : ℕ} {area area' area'' area''' :
     → Puts (field a.doc 32) at area area' next → Puts (field a.freq 32) next area' area'' last → Puts (field a.unpacked 10) last area'' area''' r
     → Puts (line (shown answer)) at area area''' r
 unfolding shown
-puts-line {a} answer e h k l = rw (e, line-is a.doc a.freq a.unpacked) (puts_then h (puts_then k l))
+puts-line {a} answer e h k l = rw (e, line-is a.doc a.freq a.unpacked a.hit) (puts_then h (puts_then k l))
 
 pub puts-refused : {why : Refusal} {at : ℕ} {area : List ℕ} (answer : Outcome Answer) → answer ≡ Err why → at ≤ length area
     → Puts (line (shown answer)) at area area at

@@ -2,6 +2,7 @@
 -- the model, so that each answer's line is the model's.
 -- Assumes nothing.
 use Rattle.std.specs.Prelude.{Ok}
+use mathlib.Core.Bool.{false}
 use mathlib.Core.List.{List, [], ◌∷◌, ◌++◌, append_assoc, append-nil}
 use mathlib.Core.Path.{◌≡◌, refl, sym, ◌∙◌}
 use Prim.Native.Nat.{ℕ, suc, ◌+◌, ◌*◌, ◌≤◌}
@@ -31,12 +32,12 @@ unfolding lines_of
 lines_of-more a rest = refl
 
 module _ (ds fs : List ℕ) where
-  steps-is : steps ds fs ≡ line (here ds fs model.opened) ++ lines_of (answers_from ds fs model.opened (replicate (length ds) step))
+  steps-is : steps ds fs ≡ line (here ds fs model.opened false) ++ lines_of (answers_from ds fs model.opened (replicate (length ds) step))
   unfolding steps answers lines_of
   steps-is = refl
 
   answers_from-step : (m : State) (n : ℕ)
-      → answers_from ds fs m (replicate (suc n) step) ≡ here ds fs (after ds m step) ∷ answers_from ds fs (after ds m step) (replicate n step)
+      → answers_from ds fs m (replicate (suc n) step) ≡ here ds fs (after ds m step) false ∷ answers_from ds fs (after ds m step) (replicate n step)
   unfolding answers_from model.answer
   answers_from-step m n = refl
 
@@ -85,7 +86,7 @@ module _ (t : Term) (bs : List ℕ) where
     }
 
   module _ {start left next : ℕ} {output₀ output : List ℕ} {c : SegmentPostings} (k : Walked start left next output₀ output c) where
-    steps_on : Goes t bs (advanced c bs t) (here docs freqs (after docs k.state step)) (after docs k.state step)
+    steps_on : Goes t bs (advanced c bs t) (here docs freqs (after docs k.state step) false) (after docs k.state step)
     unfolding called model.answer
     steps_on = (simulation t bs).goes k.stands step
 
@@ -93,15 +94,15 @@ module _ (t : Term) (bs : List ℕ) where
         → Puts (line (shown (advanced c bs t).answer)) next output output' next' → Walked start n next' output₀ output' (advanced c bs t).cursor
     walk_steps n {next'} {output'} more puts =
         let m : State = after docs k.state step in
-        let last : Puts (line (here docs freqs m)) next output output' next' = rw (steps_on.answer_is, shown-again) at puts in
+        let last : Puts (line (here docs freqs m false)) next output output' next' = rw (steps_on.answer_is, shown-again) at puts in
         let come = rw (more, answers_from-step docs freqs k.state n, lines_of-more) at k.to_come in
         record {
           state = m;
-          text = k.text ++ line (here docs freqs m);
+          text = k.text ++ line (here docs freqs m false);
           stands = steps_on.stands;
           to_come = rw append_assoc come;
           puts = puts_then k.puts last;
-          room = omega (arith, last.behind, k.room, line-most (here docs freqs m));
+          room = omega (arith, last.behind, k.room, line-most (here docs freqs m false));
         }
 
     pub walk_ends : left ≡ 0 → Puts all_steps start output₀ output next

@@ -27,10 +27,10 @@ field n b = decimal n ++ (b ∷ [])
 
 -- ---- lines
 
--- document, frequency, blocks unpacked
+-- document, frequency, blocks unpacked; steps have no hit
 unfoldable pub line : Answer → List ℕ
 unfolding field
-line (model.at d f u) = field d 32 ++ (field f 32 ++ field u 10)
+line (model.at d f u hit) = field d 32 ++ (field f 32 ++ field u 10)
 line (model.refused n) = []
 
 unfoldable pub lines_of : List Answer → List ℕ
