@@ -1,15 +1,14 @@
 -- `bench::vilthorwy_bench_seeks` meets its contract: a slice that is too short, or the run.
 -- Assumes nothing.
-use Rattle.bench.proofs.Serving.{none-served, short-docs, short-freqs, room-enough, served_as}
+use Rattle.std.proofs.Common.{arith}
+use Rattle.bench.specs.Seeks.{room}
+use Rattle.bench.proofs.Serving.{none-served, too-short, room-enough, served_as}
 use Rattle.bench.proofs.vilthorwy_bench_seeks.Goals as goal
-use Rattle.bench.proofs.vilthorwy_bench_seeks.Goals.{then-docs-targets-via-then-docs-targets, then-docs-targets-via-else-docs-targets+then-freqs-targets}
 
-pub returns-then-docs-targets : goal.returns-then-docs-targets
-returns-then-docs-targets c = elim c.then-docs-targets.branch [
-  | then-docs-targets-via-then-docs-targets w ↦ none-served _ _ _ (short-docs _ _ _ _ _ w.if-docs-targets.true)
-  | then-docs-targets-via-else-docs-targets+then-freqs-targets w ↦ none-served _ _ _ (short-freqs _ _ _ _ _ w.if-freqs-targets.true)
-]
+pub returns-then-min-targets : goal.returns-then-min-targets
+unfolding room
+returns-then-min-targets c = none-served _ (too-short _ _ _ _ (omega arith))
 
 pub returns : goal.returns
-returns c =
-    served_as (room-enough _ _ _ _ _ c.if-docs-targets.false c.if-freqs-targets.false) c.seek_each.ensures
+unfolding room
+returns c = served_as (room-enough _ _ _ _ (omega arith)) c.seek_each.ensures
