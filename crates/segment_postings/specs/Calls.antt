@@ -67,11 +67,12 @@ pub record Reaches (o : Outcome SegmentPostings) (docs freqs docs' freqs' : List
   pub docs_after : docs' ≡ or_before (λ c. c.docs) o docs
   pub freqs_after : freqs' ≡ or_before (λ c. c.freqs) o freqs
 
--- .. of a seek, which says besides whether the target is the document there
+-- a seek's answer without its hit
 unfoldable pub without_hit : Outcome Sought → Outcome Held
 without_hit (Ok s) = Ok s.held
 without_hit (Err n) = Err n
 
+-- a seek on two lent arrays: where it came to, as `Reaches` says it, and whether its target is the document there
 pub record Finds (t : Term) (target : ℕ) (o : Outcome SegmentPostings) (docs freqs docs' freqs' : List ℕ) (r : Outcome Sought) : Type 0 where
   pub reaches : Reaches o docs freqs docs' freqs' (without_hit r)
   pub hit_there : {s : Sought} → r ≡ Ok s → s.hit ≡ hit_of t target (cursor_of s.held docs' freqs')
