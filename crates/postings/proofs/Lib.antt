@@ -1,5 +1,6 @@
 pub mod FirstPromise
 pub mod SecondPromise
+pub mod SeekHits
 pub mod SingleCalls
 pub mod StaysInBlock
 pub mod ThirdPromise
