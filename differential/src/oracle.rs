@@ -3,8 +3,8 @@
 use common::CountingWriter;
 
 use crate::directory::FileSlice;
-use crate::docset::DocSet;
 pub use crate::docset::TERMINATED;
+use crate::docset::{DocSet, SeekDangerResult};
 use crate::lists::List;
 use crate::postings::serializer::{FieldSerializer, PostingsSerializer};
 use crate::postings::{BlockSegmentPostings, Postings, SegmentPostings};
@@ -108,6 +108,17 @@ impl Opener {
         shown
     }
 
+    /// The same by `seek_danger`, whose own word for the hit is taken.
+    pub fn calls_by_danger(&self, requested: u8, calls: &[Call]) -> Vec<Shown> {
+        let mut cursor = self.open(requested);
+        let mut shown = vec![self.show(&cursor, None)];
+        for &call in calls {
+            let hit = make_by_danger(call, &mut cursor);
+            shown.push(Shown { hit, ..self.show(&cursor, None) });
+        }
+        shown
+    }
+
     fn show(&self, cursor: &SegmentPostings, call: Option<Call>) -> Shown {
         let (doc, freq, hit) = answer(cursor, call);
         let held = &cursor.block_cursor;
@@ -188,9 +199,25 @@ fn make(call: Call, cursor: &mut SegmentPostings) {
     };
 }
 
+/// Makes the call, a seek by `seek_danger`, and answers whether that found its target. For `TERMINATED`
+/// it would not move. Of any docset it wants targets that rise, and may spoil it on a miss; a posting
+/// list has the trait's default, `seek` and a comparison, which takes any and leaves it valid.
+fn make_by_danger(call: Call, cursor: &mut SegmentPostings) -> bool {
+    match call {
+        Call::Seek(target) if target < TERMINATED => {
+            cursor.seek_danger(target) == SeekDangerResult::Found
+        }
+        _ => {
+            make(call, cursor);
+            false
+        }
+    }
+}
+
 /// The document, its frequency, and whether it is the target of the seek that came to it. At the end
 /// the frequency is 0, as document 01 has it, since the Rust shows what an earlier document left there.
-/// The Rust's seek doesn't say that it has hit: whoever calls it compares its document with the target.
+/// The Rust's `seek` doesn't tell the hit, so its document is compared with the target; `seek_danger`
+/// tells it by the same rule, but doesn't move for `TERMINATED` (`make_by_danger`).
 #[inline]
 fn answer(cursor: &SegmentPostings, call: Option<Call>) -> (u32, u32, bool) {
     match cursor.doc() {

@@ -381,7 +381,7 @@ pub fn unanswered(caller: &dyn Caller, image: &Image) -> Outcome {
     Ok(())
 }
 
-/// A target above the limit never gets to the Rust, and changes nothing.
+/// By `seek` and by `seek_danger`. A target above the limit never gets to the Rust, and changes nothing.
 fn rust_calls(
     opener: &Opener,
     requested: u8,
@@ -389,17 +389,20 @@ fn rust_calls(
     wanted: &[[u64; ANSWER_NUMBERS]],
 ) -> Outcome {
     let taken: Vec<Call> = calls.iter().copied().filter(|call| !call.too_large()).collect();
-    let shown = opener.calls(requested, &taken);
+    let by_seek = opener.calls(requested, &taken);
+    let by_danger = opener.calls_by_danger(requested, &taken);
     let not_above = |at: usize| at == 0 || !calls[at - 1].too_large();
-    let wanted = wanted.iter().enumerate().filter(|(at, _)| not_above(*at));
-    let mut held = std::collections::BTreeSet::new();
-    for ((at, wanted), shown) in wanted.zip(shown) {
-        held.insert(shown.block);
-        let (doc, freq) = (shown.doc.into(), shown.freq.into());
-        // Entries read it doesn't count.
-        let entries = wanted[ENTRIES_PLACE];
-        let found = [0, doc, freq, held.len() as u64, entries, shown.hit.into()];
-        equal(|| format!("Rust, answer {at}"), &found, wanted)?;
+    for (by, shown) in [("seek", by_seek), ("seek_danger", by_danger)] {
+        let wanted = wanted.iter().enumerate().filter(|(at, _)| not_above(*at));
+        let mut held = std::collections::BTreeSet::new();
+        for ((at, wanted), shown) in wanted.zip(shown) {
+            held.insert(shown.block);
+            let (doc, freq) = (shown.doc.into(), shown.freq.into());
+            // Entries read it doesn't count.
+            let entries = wanted[ENTRIES_PLACE];
+            let found = [0, doc, freq, held.len() as u64, entries, shown.hit.into()];
+            equal(|| format!("Rust by {by}, answer {at}"), &found, wanted)?;
+        }
     }
     Ok(())
 }
