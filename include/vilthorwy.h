@@ -89,8 +89,8 @@ uint64_t vilthorwy_total(uint8_t mode, uint32_t count, const uint8_t *image, siz
 
 /* Opens a cursor and makes calls on it in order. A call is kind * 2^32 + target; kinds: 0 step, 1 seek, 2 step on a lent cursor, 3 seek on
  * a lent cursor; a step takes no notice of its target. VILTHORWY_ANSWER_NUMBERS numbers are answered for the opening and for each call.
- * The hit is 1 where a seek's document is the target itself, also if the cursor was on it before, and else 0: of the opening and of a
- * step always, and at the end, for the target 2147483647 too. After a refusal the next call finds the cursor as it was. At the end the
+ * The hit is 1 where the document that a seek answers is its target, also where the cursor stood on it already; else 0. It is 0 for the
+ * opening, for a step, and at the end, for the target 2147483647 too. After a refusal the next call finds the cursor as it was. At the end the
  * document is 2147483647 and the frequency 0, and a step or a seek stays there; but a seek to a target above 2147483647 is refused under
  * 10 wherever the cursor is, at the end too. Of an image that isn't sound the call is refused that comes to read what is wrong. Returns
  * how many answers were written: one for a refused opening; 0, and nothing written, where answers is shorter than

@@ -75,8 +75,8 @@ fn seek_each(
     targets.len()
 }
 
-// Opens a list, seeks the targets in order on one cursor and stores of each answer, at the target's place in the three slices, the document
-// and the frequency, at the end TERMINATED and 0, and 1 where it is a hit, else 0: how many were served, up to the first refusal. None is
+// Opens a list, seeks the targets in order on one cursor and stores each answer at the target's place in the three slices: the document and
+// the frequency (at the end TERMINATED and 0), and 1 for a hit, 0 for none. It answers how many were served, up to the first refusal: none
 // where a slice is shorter than the targets or opening is refused. Every other place stays as it was.
 #[tactic(auto, unfolding(crate::specs::Seeks::room))]
 #[unsafe(no_mangle)]

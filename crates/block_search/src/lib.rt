@@ -35,9 +35,9 @@ fn stands(arr: &[u32; 128], target: u32, place: usize) -> bool
 }
 
 // The place is the index of the first element that is at least the target, where the elements never fall and the last reaches the
-// target. There the target stands, if it is in such a block at all, so one comparison tells whether it is.
+// target. Such a block has the target there or nowhere, so one comparison tells whether it is in it.
 // An 8-ary search: 128 -> 16 -> 2 by seven pivots each, then a scan of the two elements left, which are pivots at step 1.
-// Inlined into its callers: kept apart it made a seek slower, as measured.
+// Inlined by hand, for speed: docs/DECISIONS.md, "Inlined".
 // By hand, since the library's `partition_point` halves, and so finds another place in elements that fall, of which `place` speaks too.
 #[inline(always)]
 pub fn search_block(arr: &[u32; 128], target: u32) -> Located

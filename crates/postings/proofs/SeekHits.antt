@@ -1,11 +1,11 @@
--- What a hit says of the list: a seek is a hit exactly where its target is among the documents from the present position on. Where a
--- list rises, what lies behind its first element that is at least the target lies above that element, so the target is in the list
+-- What a hit says. Of the answer, on every cursor and every image: that the document answered is the target, which TERMINATED never is. Of the
+-- list, on an admitted image: that the target is among the documents from the present position on. Where a list rises, what lies behind its first element that is at least the target lies above that element, so the target is in the list
 -- exactly where that element is the target. By induction on the list.
 -- Assumes nothing.
-use Rattle.std.specs.Prelude.{Ok}
-use mathlib.Core.Bool.{true, false, ◌&&◌ as and}
+use Rattle.std.specs.Prelude.{Ok, Err}
+use mathlib.Core.Bool.{Bool, true, false, ◌&&◌ as and}
 use mathlib.Core.List.{List, [], ◌∷◌}
-use mathlib.Core.Path.{◌≡◌, refl, sym}
+use mathlib.Core.Path.{◌≡◌, refl, sym, subst}
 use Prim.Native.Nat.{ℕ, zero, suc, ◌+◌, ◌≤◌, ◌<◌}
 use native.Mathlib.Nat.{zero-add, suc-add}
 use native.Mathlib.Decide.{dec_le}
@@ -14,16 +14,23 @@ use borrow.Author.Tests.{le-leb, lt-ltb, le-ltb, eq-eqb, ne_eqb}
 use lib.Dec.{eqb, ltb, leb-suc-suc}
 use lib.ListN.{length, get_or, drop}
 use Rattle.format.specs.declared.Term.{Term}
-use Rattle.format.specs.Basics.{choose, TERMINATED}
+use Rattle.format.specs.Basics.{Outcome, choose, TERMINATED}
 use Rattle.format.specs.Counts.{count_below}
 use Rattle.format.specs.Values.{rising}
 use Rattle.format.specs.Reading.{reading, soundness, docs_of}
 use Rattle.format.specs.Model.{Call, seek, State, member, opened, moved, after, hits}
 use Rattle.format.proofs.Below.{count-passes, count_stops, count-nil}
 use Rattle.format.proofs.Blocks.{docs-rising}
+use Rattle.format.proofs.Outcome.{ok_same, refused≢ok}
 use Rattle.format.proofs.Requested.{sound_requested}
 use Rattle.format.proofs.Sound.{sound-image, sound-blocks}
 use Rattle.format.proofs.Values.{rising-cons}
+use Rattle.block_search.proofs.Hits.{stands_there}
+use Rattle.segment_postings.specs.declared.Answer.{Answer}
+use Rattle.segment_postings.specs.declared.SegmentPostings.{SegmentPostings}
+use Rattle.segment_postings.specs.Cursor.{position, answer_at_of, moved as moved_to, seeking, hit_of, sought}
+use Rattle.segment_postings.proofs.Laws.CursorTurns.{answer_at_of-is}
+use Rattle.segment_postings.proofs.Laws.ReachedBounds.{seeking_near}
 use Rattle.postings.specs.ThirdPromise.{state_after}
 
 module _ (target : ℕ) where
@@ -92,3 +99,36 @@ module _ (t : Term) (bs : List ℕ) (sound : soundness t.mode t.count bs ≡ Ok 
   pub fresh_hit-member : hits docs (after docs opened (seek target)) target ≡ member target docs
   unfolding opened
   fresh_hit-member = hit_in opened
+
+-- ---- on every image
+
+-- an answer's hit is about its document
+abbrev OfDocument : ℕ → Answer → Type 0
+OfDocument target a = a.hit ≡ and (ltb target TERMINATED) (eqb a.doc target)
+
+last_below : (target : ℕ) → and (ltb target TERMINATED) false ≡ and (ltb target TERMINATED) (eqb TERMINATED target)
+last_below target = elim (dec_le TERMINATED target) [
+  | yes a ↦ rw (le-ltb target TERMINATED a)
+  | no a ↦ rw (ne_eqb TERMINATED target (λ e. omega arith))
+]
+
+-- at the end, and at a document of the held block
+there-hit : (t : Term) (c : SegmentPostings) (target : ℕ) → c.held.place < 128 → OfDocument target (answer_at_of t (hit_of t target c) c)
+unfolding hit_of choose
+there-hit t c target below = by_test (eqb (position c.held) t.count) refl
+  where
+    by_test : (r : Bool) → eqb (position c.held) t.count ≡ r → OfDocument target (answer_at_of t (hit_of t target c) c)
+    by_test true e = rw (answer_at_of-is, e) (last_below target)
+    by_test false e = rw (answer_at_of-is, e, stands_there c.docs target c.held.place below)
+
+moved-hit : (t : Term) (before : SegmentPostings) (target : ℕ) (o : Outcome SegmentPostings) {a : Answer}
+    → ((d : SegmentPostings) → o ≡ Ok d → d.held.place < 128) → (moved_to t before (hit_of t target) o).answer ≡ Ok a → OfDocument target a
+unfolding moved_to
+moved-hit t before target (Ok d) near told = subst (OfDocument target) (ok_same told) (there-hit t d target (near d refl))
+moved-hit t before target (Err n) near told = absurd (refused≢ok told)
+
+-- a seek's answer is a hit exactly where its document is the target, and that lies below TERMINATED
+pub answer-hit : (c : SegmentPostings) (bs : List ℕ) (t : Term) (target : ℕ) {a : Answer} → (sought c bs t target).answer ≡ Ok a
+    → a.hit ≡ and (ltb target TERMINATED) (eqb a.doc target)
+unfolding sought
+answer-hit c bs t target told = moved-hit t c target (seeking c bs t target) (λ d e. (seeking_near c bs t target e).0) told

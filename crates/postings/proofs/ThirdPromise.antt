@@ -17,6 +17,8 @@
 -- cursor after them, what `doc`, `term_freq` and `answer_at` give there, and that the model's set, whose size is the count, is the set of
 -- the different blocks in which its positions lie. Those three leave the cursor, and every beginning of a list is a list, so they may
 -- stand between any two calls.
+-- Document 02 adds (Ask 2) that every answer tells whether its seek's target is the document at the position that it reached; the model has it
+-- (`hits`), and so `third_promise`. What a hit says of the list is SeekHits.antt's.
 -- The argument: each function meets the definition of its call, whether the cursor goes by value, is lent, or lies in two lent arrays and
 -- numbers (segment_postings, CallsByValue.antt), so a mixed list answers what its calls answer (`called_are`); those answer what the model
 -- answers, and leave a cursor beside the model's state (segment_postings, CallsSimulate.antt `simulation`); the set is
@@ -42,15 +44,16 @@ use Rattle.segment_postings.specs.declared.Answer.{Answer}
 use Rattle.segment_postings.specs.declared.Held.{Held}
 use Rattle.segment_postings.specs.declared.Moved.{Moved}
 use Rattle.segment_postings.specs.declared.SegmentPostings.{SegmentPostings}
-use Rattle.segment_postings.specs.Cursor.{in_bounds_of, no_hit, moved, opened, stepping, seeking, advanced, hit_of, sought}
-use Rattle.segment_postings.specs.Calls.{cursor_of, Leaves, Reaches}
+use Rattle.segment_postings.specs.declared.Sought.{Sought}
+use Rattle.segment_postings.specs.Cursor.{in_bounds_of, answering, no_hit, moved, opened, stepping, seeking, advanced, hit_of, sought}
+use Rattle.segment_postings.specs.Calls.{cursor_of, Leaves, Reaches, without_hit, Finds}
 use Rattle.segment_postings.specs.Called.{reaching, hit_by, called, calls_from, calls, cursor_after, positions, answer_length, entries_place, model_numbers}
-use Rattle.segment_postings.specs.Called.{SameCall}
+use Rattle.segment_postings.specs.Called.{with_hit, SameCall}
 use Rattle.segment_postings.proofs.Laws.LandingParts.{no_hit_told}
 use Rattle.segment_postings.proofs.Laws.CallsByValue.{open_in_calls, advance_in_calls, seek_in_calls}
 use Rattle.segment_postings.proofs.Laws.SeekQuestions.{seeking_too_large}
 use Rattle.segment_postings.proofs.Simulation.CallsSimulate.{shown-again, simulation}
-use Rattle.postings.specs.MixedCalls.{Manner, MadeCall, calls_of, Opened, handed_out, filled, unfilled}
+use Rattle.postings.specs.MixedCalls.{Manner, on_arrays, MadeCall, calls_of, Opened, handed_out, filled, unfilled}
 use Rattle.postings.specs.MixedCalls.{Meets, handed_back, left_there, came, stayed, Called, none, next}
 use Rattle.postings.specs.MixedCalls.{Code, steps, seeks, steps_lent, seeks_lent, Codes, ended, coded}
 use Rattle.postings.specs.RunCalls.{call_of, kind_of, all_known, model_answers, Runs}
@@ -82,6 +85,19 @@ met (left_there e) = e
 met {bs} {t} {call} (came held {docs} {freqs} {docs'} {freqs'} {held'} k hits tells) =
     leaves (rw (tells, hits) (sym ((on_arrays_call bs t call held k).came refl)))
 met {bs} {t} {call} (stayed held k) = let s = (on_arrays_call bs t call held k).stayed refl in leaves (rw (s.1, s.2) (sym s.0))
+
+-- what the contract of `seek_in` says (`Finds`) makes a call on arrays, with `answer_at` where it came to
+pub found_meets : {bs : List ℕ} {t : Term} {target : ℕ} (held : Held) {docs freqs docs' freqs' : List ℕ} {s : Sought} {answer : Outcome Answer}
+    → Finds t target (seeking (cursor_of held docs freqs) bs t target) docs freqs docs' freqs' (Ok s) → answer ≡ answering t (cursor_of s.held docs' freqs')
+    → Meets bs t (seek target) on_arrays (cursor_of held docs freqs) (with_hit s.hit answer) (cursor_of s.held docs' freqs')
+unfolding reaching hit_by without_hit
+found_meets held k tells = came held k.reaches (k.hit_there refl) tells
+
+pub unfound_meets : {bs : List ℕ} {t : Term} {target : ℕ} (held : Held) {docs freqs docs' freqs' : List ℕ} {r : Refusal}
+    → Finds t target (seeking (cursor_of held docs freqs) bs t target) docs freqs docs' freqs' (Err r)
+    → Meets bs t (seek target) on_arrays (cursor_of held docs freqs) (Err r) (cursor_of held docs' freqs')
+unfolding reaching without_hit
+unfound_meets held k = stayed held k.reaches
 
 -- on every image, admitted or not, each answer and each cursor is what the definition of its call gives
 pub called_are : {bs : List ℕ} {t : Term} {c d : SegmentPostings} {made : List MadeCall} {told : List (Outcome Answer)} → Called bs t c made told d

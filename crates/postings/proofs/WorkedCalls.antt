@@ -1,6 +1,6 @@
 -- What `run_calls` writes, computed from its definition: the worked list of document 01, "Ids 0 to 128, mode 0: `85 7F 00 00 00 40 81`; seek
 -- 128: position 128, 2 unpacked, 1 entry", with a place behind the answers that stays as it was; a target above 2147483647 before the end
--- and at it (document 02, Ask 10); and the inputs that it refuses.
+-- and at it (document 02, Ask 10); hits and misses (Ask 2); and the inputs that it refuses.
 -- Assumes nothing.
 use mathlib.Core.List.{List, [], ◌∷◌}
 use mathlib.Core.Path.{◌≡◌, refl}
@@ -36,8 +36,7 @@ pub ended-answers : answers_after [] (record { mode = 0; requested = 0; count = 
 unfolding answers_after pivots_below_of
 ended-answers = refl
 
--- the very document or the next (document 02, Ask 2): the first id above 3, then 7 itself, 6 from behind, 300 and its neighbour, where the end
--- is, and TERMINATED there
+-- on 3, 7, 300: 4, which isn't in the list; 7, which is; 6, below the present document; 300; 301, which leads to the end; and TERMINATED there
 abbrev three : List ℕ
 three = 0x83 ∷ 0x84 ∷ 0x25 ∷ 0x82 ∷ []
 

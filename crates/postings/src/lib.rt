@@ -46,7 +46,7 @@
 //     let moved = advance(opened.cursor, image, term);                 // the next
 //     let moved = seek(moved.cursor, image, term, 300);                // the first at or above 300, not before the present one
 //     let answer = moved.answer?;                                      // `doc`, `freq`, and so far `unpacked` blocks and `entries` read
-//     let is_there = answer.hit;                                       // whether 300 itself is there, or only a later document
+//     let is_there = answer.hit;                                       // whether 300 itself is there; else it is a later document, or the end
 //     let d = doc(moved.cursor, image, term)?;                         // 2147483647 at the end
 //     let f = term_freq(moved.cursor, image, term)?;                   // 0 at the end
 //

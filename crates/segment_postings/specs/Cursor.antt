@@ -191,11 +191,13 @@ seeking c bs t target =
     choose (nat_le target (slice_index c.docs c.held.place)) (λ _. Ok c) λ _.
     choose (nat_le target c.held.last_doc) (λ _. within c t target) (λ _. behind c bs t target)
 
--- whether the target is the document at the position (document 02, Ask 2): at the end there is none, whatever the held values are, so
--- that TERMINATED never is
+-- whether the target is the document at the position (document 02, Ask 2): at the end there is none, and TERMINATED is no document, whatever
+-- the held values are
 unfoldable pub hit_of : Term → ℕ → SegmentPostings → Bool
 unfolding choose position stands_at
-hit_of t target c = choose (position c.held == t.count) (λ _. false) (λ _. stands_at c.docs target c.held.place)
+hit_of t target c =
+    and (nat_lt target TERMINATED)
+    (choose (position c.held == t.count) (λ _. false) (λ _. stands_at c.docs target c.held.place))
 
 unfoldable pub sought : SegmentPostings → List ℕ → Term → ℕ → Moved
 unfolding moved seeking hit_of

@@ -97,7 +97,7 @@ pub(crate) fn shown_at(sought: Sought, term: Term, docs: &[u32; 128], freqs: &[u
     }
 }
 
-// The same for any place: one that no block has is refused (16). It has no target, so no hit: `seek_in` told it.
+// The same for any place: one that no block has is refused (16). It has no target, so no hit: a seek's is what `seek_in` answered.
 pub fn answer_at(
     held: Held,
     term: Term,

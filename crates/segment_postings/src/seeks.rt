@@ -13,17 +13,17 @@ use crate::{Answer, Held, Moved, SegmentPostings, Sought};
 use block_search::{Located, search_block};
 use format::{COMPRESSION_BLOCK_SIZE, Refusal, TERMINATED, Term};
 
-// The target's place in the held block, and whether the target stands there: at the end it doesn't, whatever the array holds. It and `seek`
-// are inlined, as the search is: kept apart, as the compiler did once they answered a hit, they made seeks slower by a fourth, as measured.
+// The target's place in the held block, and whether the target stands there. The array of a lent cursor may hold anything, also at the end
+// and also TERMINATED before it: neither is a hit. Inlined by hand, as the search and `seek` are, for speed: docs/DECISIONS.md, "Inlined".
 #[inline(always)]
 fn place_in(held: Held, term: Term, target: u32, docs: &[u32; 128]) -> Sought
     ensures { (freqs : List ℕ) → result ≡ told_of term target (at_place (cursor_of held docs.now freqs) (search_block_of docs.now target)) }
 {
     let Located { place, hit } = search_block(docs, target);
-    let there = held.at_place(place);
+    let placed = held.at_place(place);
     Sought {
-        held: there,
-        hit: hit && !there.at_end(term),
+        held: placed,
+        hit: (target < TERMINATED) & hit && !placed.at_end(term),
     }
 }
 
@@ -89,7 +89,7 @@ pub fn seek_in(
     if target <= doc {
         return Ok(Sought {
             held,
-            hit: doc == target,
+            hit: (target < TERMINATED) & (doc == target),
         });
     }
     if target <= held.last_doc {

@@ -1,8 +1,9 @@
 -- The calls on two lent arrays (`open_in`, `advance_in`, `seek_in`) are the calls by value on the cursor that the numbers and the arrays
 -- make together. One that came somewhere leaves, in its numbers and the arrays, the cursor that the call by value hands back, and
--- `answer_at` answers of it what the call by value answers, but for a seek's hit, which `seek_in` tells; one that was refused leaves the arrays, and the call by value is refused under the same number. So a
--- list of these calls is a list of calls of the third promise (crate postings), which is about cursors.
--- The contracts say each call's outcome as `Reaches`; an outcome with its answer is `moved`. One law over every outcome, and an instance
+-- `answer_at` answers of it what the call by value answers, but for a seek's hit, which `seek_in` tells; one that was refused leaves the
+-- arrays, and the call by value is refused under the same number. So a list of these calls is a list of calls of the third promise (crate
+-- postings), which is about cursors.
+-- The contracts say each call's outcome as `Reaches`, a seek's as `Finds`, which has one; an outcome with its answer is `moved`. One law over every outcome, and an instance
 -- for each call. The calls by value are proved by it too: what `with_answer` makes of a call on their arrays is what they hand back.
 -- Assumes nothing.
 use Rattle.std.specs.Prelude.{◌≡◌, ℕ, ◌<◌, Bool, List, Ok, Err}

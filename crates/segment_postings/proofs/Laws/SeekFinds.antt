@@ -2,13 +2,13 @@
 -- came somewhere has in its numbers and the arrays the cursor that its outcome is; one that was refused has none. And what such a seek
 -- tells in each of its ways: a cursor's numbers with the hit, at the end no, before it by what stands at the place.
 -- Assumes nothing.
-use Rattle.std.specs.Prelude.{◌≡◌, ℕ, ◌<◌, Bool, true, false, not, eqb, List, get_or, Ok, Err}
-use mathlib.Core.Bool.{and-eq-true_iff}
+use Rattle.std.specs.Prelude.{◌≡◌, ℕ, ◌<◌, Bool, true, false, not, ◌&&◌ as and, eqb, ltb, List, get_or, Ok, Err}
+use mathlib.Core.Bool.{and-eq-true_iff, and-false}
 use mathlib.Core.Path.{refl, sym, ap, subst, ◌∙◌}
 use borrow.Author.Tests.{ltb-true}
 use Rattle.format.specs.declared.refusal.Refusal.{Refusal}
 use Rattle.format.specs.declared.Term.{Term}
-use Rattle.format.specs.Basics.{Outcome, choose, or_before}
+use Rattle.format.specs.Basics.{Outcome, choose, or_before, TERMINATED}
 use Rattle.format.proofs.Outcome.{ok_same, refused≢ok}
 use Rattle.block_search.specs.Search.{stands_at}
 use Rattle.block_search.proofs.Hits.{stands_there}
@@ -69,31 +69,35 @@ unfolding stands_at
 stands_below arr target place e = ltb-true _ _ ((and-eq-true_iff _ _).0 e).0
 
 module _ (t : Term) (target : ℕ) (c : SegmentPostings) where
-  -- at the place that a search found: where the target stands there it is a hit before the end, and else none
-  pub found-told : stands_at c.docs target c.held.place ≡ true → record { held = c.held; hit = not (eqb (position c.held) t.count) } ≡ told_of t target c
-  unfolding told_of hit_of choose
-  found-told e = by_test (eqb (position c.held) t.count) refl
-    where
-      by_test : (r : Bool) → eqb (position c.held) t.count ≡ r
-          → record { held = c.held; hit = not (eqb (position c.held) t.count) } ≡ told_of t target c
-      by_test true end = rw end
-      by_test false before = rw (before, e)
+  abbrev Told : Bool → Type 0
+  Told hit = record { held = c.held; hit = hit } ≡ told_of t target c
 
-  pub unfound-told : stands_at c.docs target c.held.place ≡ false → record { held = c.held; hit = false } ≡ told_of t target c
+  -- at the end there is none
+  pub ended-told : eqb (position c.held) t.count ≡ true → Told false
   unfolding told_of hit_of choose
+  ended-told e = rw (e, and-false)
+
+  -- before it what stands at the place tells it, TERMINATED apart
+  stands-told : eqb (position c.held) t.count ≡ false → Told (and (ltb target TERMINATED) (stands_at c.docs target c.held.place))
+  unfolding told_of hit_of choose
+  stands-told before = rw before
+
+  -- .. which is one comparison, at a place of the block
+  pub there-told : eqb (position c.held) t.count ≡ false → c.held.place < 128 → Told (and (ltb target TERMINATED) (eqb (get_or c.docs c.held.place 0) target))
+  there-told before below = rw (← stands_there c.docs target c.held.place below) (stands-told before)
+
+  -- where the target doesn't stand at the place there is none
+  pub unfound-told : and (ltb target TERMINATED) (stands_at c.docs target c.held.place) ≡ false → Told false
   unfound-told e = by_test (eqb (position c.held) t.count) refl
     where
-      by_test : (r : Bool) → eqb (position c.held) t.count ≡ r → record { held = c.held; hit = false } ≡ told_of t target c
-      by_test true end = rw end
-      by_test false before = rw (before, e)
+      by_test : (r : Bool) → eqb (position c.held) t.count ≡ r → Told false
+      by_test true end = ended-told end
+      by_test false before = rw (← e) (stands-told before)
 
-  -- at the end no
-  pub ended-told : eqb (position c.held) t.count ≡ true → record { held = c.held; hit = false } ≡ told_of t target c
-  unfolding told_of hit_of choose
-  ended-told e = rw e
-
-  -- before it by the document at the place
-  pub there-told : eqb (position c.held) t.count ≡ false → c.held.place < 128
-      → record { held = c.held; hit = eqb (get_or c.docs c.held.place 0) target } ≡ told_of t target c
-  unfolding told_of hit_of choose
-  there-told e below = rw (e, stands_there c.docs target c.held.place below)
+  -- where it does it is one before the end
+  pub found-told : and (ltb target TERMINATED) (stands_at c.docs target c.held.place) ≡ true → Told (not (eqb (position c.held) t.count))
+  found-told e = by_test (eqb (position c.held) t.count) refl
+    where
+      by_test : (r : Bool) → eqb (position c.held) t.count ≡ r → Told (not (eqb (position c.held) t.count))
+      by_test true end = rw end (ended-told end)
+      by_test false before = rw before (rw (← e) (stands-told before))

@@ -2,20 +2,23 @@
 -- Opening gives one that holds block 0, a step one that holds the same block or the next, and the answer at its position is what the
 -- image's documents and frequencies have there, as are the values of `doc` and `term_freq` and a seek's hit.
 -- Assumes nothing.
-use Rattle.std.specs.Prelude.{◌≡◌, ℕ, zero, suc, ◌+◌, ◌-◌, ◌*◌, ◌<◌, ◌≤◌, min, Bool, true, ◌&&◌ as and, eqb, ltb, List, [], ◌∷◌, length, get_or, Ok}
+use Rattle.std.specs.Prelude.{◌≡◌, ℕ, zero, suc, ◌+◌, ◌-◌, ◌*◌, ◌<◌, ◌≤◌, min, Bool, true, false, ◌&&◌ as and, eqb, ltb, List, [], ◌∷◌, length, get_or, Ok}
+use mathlib.Core.Bool.{and-false}
 use mathlib.Core.Logic.{⊎_elim}
 use mathlib.Core.Path.{refl, sym, ◌∙◌}
 use native.Mathlib.Nat.{not-suc-le-zero, le_of_suc-le-suc, eq-or-lt_of_le, add-zero}
 use native.Mathlib.Decide.{dec_le}
 use native.Mathlib.Numerals.{add-one}
 use native.Mathlib.Omega.{arith}
-use borrow.Author.Tests.{lt-ltb, le-ltb, le-leb, eq-eqb, ne_eqb}
+use borrow.Author.Tests.{lt-ltb, le-ltb, le-leb, eq-eqb, ne_eqb, eqb-true}
 use lib.ListN.{get_or-append, get_or-eq_default}
 use Rattle.format.specs.declared.Term.{Term}
 use Rattle.format.specs.Basics.{and_then, ask, choose, TERMINATED}
 use Rattle.format.specs.Layout.{full_blocks_of}
 use Rattle.format.specs.Reading.{Block, reading, docs_of, freqs_of}
-use Rattle.format.proofs.Blocks.{block_at, full-sound, tail-sound, docs_many, freqs_many, doc-at, freq-at}
+use Rattle.format.specs.Values.{rising}
+use Rattle.format.proofs.Blocks.{block_at, full-sound, tail-sound, docs-rising, docs_many, freqs_many, doc-at, freq-at}
+use Rattle.format.proofs.Values.{rising-cons}
 use Rattle.format.proofs.Sound.{Sound, sound-blocks, whole-count, tail-short}
 use Rattle.block_search.proofs.Hits.{stands_there}
 use Rattle.segment_postings.specs.declared.find.Found.{Found}
@@ -216,6 +219,19 @@ pub padded-there : (filler : ℕ) (l : List ℕ) (i z y : ℕ) → i < length l 
 unfolding padded
 padded-there filler l i z y h = get_or-append l _ z i h ∙ get_or-there l i z y h
 
+-- documents that rise lie below TERMINATED, so that equality alone tells a hit
+rising-below : (least : ℕ) (ds : List ℕ) (i z : ℕ) → rising least ds ≡ true → i < length ds → get_or ds i z < TERMINATED
+rising-below least [] i z r h = absurd (not-suc-le-zero h)
+rising-below least (d ∷ ds) zero z r h = (rising-cons least d ds r).below
+rising-below least (d ∷ ds) (suc i) z r h = rising-below (d + 1) ds i z (rising-cons least d ds r).rest (le_of_suc-le-suc h)
+
+below_equal : (doc target : ℕ) → doc < TERMINATED → and (ltb target TERMINATED) (eqb doc target) ≡ eqb doc target
+below_equal doc target h = by_test (eqb doc target) refl
+  where
+    by_test : (r : Bool) → eqb doc target ≡ r → and (ltb target TERMINATED) (eqb doc target) ≡ eqb doc target
+    by_test true e = rw (e, lt-ltb target TERMINATED (omega (arith, eqb-true doc target e)))
+    by_test false e = rw (e, and-false)
+
 module _ {t : Term} {bs : List ℕ} (s : Sound t bs) {c : SegmentPostings} (k : Holds s c) where
   abbrev docs : List ℕ
   docs = docs_of (reading t bs).blocks
@@ -274,14 +290,16 @@ module _ {t : Term} {bs : List ℕ} (s : Sound t bs) {c : SegmentPostings} (k : 
   hit-holds target =
       let many : length docs ≡ t.count = docs_many (sound-blocks s) ∙ whole-count t in
       ⊎_elim
-      (λ e. rw (eq-eqb (position c.held) t.count e, le-ltb (position c.held) (length docs) (omega arith)))
+      (λ e. rw (eq-eqb (position c.held) t.count e, le-ltb (position c.held) (length docs) (omega arith), and-false))
       (λ h.
       rw (
         ne_eqb (position c.held) t.count (λ e. omega arith),
         lt-ltb (position c.held) (length docs) (omega arith),
         stands_there c.docs target c.held.place k.place_most,
         doc_there h,
-      ))
+      )
+      (below_equal (get_or docs (position c.held) TERMINATED) target
+      (rising-below 0 docs (position c.held) TERMINATED (docs-rising (sound-blocks s)) (omega arith))))
       (eq-or-lt_of_le k.position_most)
 
   -- the document and the frequency, as calls of their own
