@@ -1,6 +1,6 @@
 -- The questions of document 01, each with the number under which a no is refused.
 -- Assumes nothing.
-use Rattle.std.specs.Prelude.{ℕ}
+use Rattle.std.specs.Prelude.{ℕ, List, codes}
 use Rattle.format.specs.declared.refusal.Refusal.{Refusal}
 use Rattle.format.specs.declared.refusal.Refusal.TheVariants.{UnknownMode, CountTooLarge, SkipLengthBroken, SkipLengthWrong, EntryBroken, DocsNotRising, FreqOutOfRange, NumberBroken, BytesLeft, TargetTooLarge, IdTooLarge, IdNotRising, FreqZero, CountMismatch, NoRoom, StateBroken}
 
@@ -38,3 +38,22 @@ number_of CountMismatch = 14
 number_of NoRoom = 15
 -- the numbers of a lent state are in bounds
 number_of StateBroken = 16
+
+-- the words in which it is printed, as codes
+abbrev pub words_of : Refusal → List ℕ
+words_of UnknownMode = codes "unknown mode"
+words_of CountTooLarge = codes "count above 2147483647"
+words_of SkipLengthBroken = codes "skip length incomplete, or above the bytes left"
+words_of SkipLengthWrong = codes "skip length other than the full blocks' entries take"
+words_of EntryBroken = codes "skip entry out of its limits"
+words_of DocsNotRising = codes "documents don't rise as they must"
+words_of FreqOutOfRange = codes "frequency out of range"
+words_of NumberBroken = codes "number incomplete or out of its limits"
+words_of BytesLeft = codes "bytes left behind the last block"
+words_of TargetTooLarge = codes "target above 2147483647"
+words_of IdTooLarge = codes "document above 2147483646"
+words_of IdNotRising = codes "document not above the one before it"
+words_of FreqZero = codes "frequency 0"
+words_of CountMismatch = codes "another count than announced, or slices of two lengths"
+words_of NoRoom = codes "no room in what was lent"
+words_of StateBroken = codes "numbers of a lent state out of bounds"

@@ -10,7 +10,7 @@ use Rattle.format.specs.declared.refusal.Refusal.{Refusal}
 use mathlib.Core.Bool.{Bool, true, not, ◌&&◌ as and, ◌||◌ as or, and-eq-true_iff}
 use mathlib.Core.List.{List, [], ◌∷◌}
 use mathlib.Core.Logic.{◌↔◌}
-use mathlib.Core.Path.{◌≡◌, refl, ◌∙◌}
+use mathlib.Core.Path.{◌≡◌, refl, ◌∙◌, sym}
 use Prim.Native.Nat.{ℕ, ◌+◌, ◌≤◌, ◌<◌, ◌^◌}
 use native.Mathlib.Omega.{arith}
 use borrow.Author.Tests.{eq-eqb}
@@ -22,6 +22,7 @@ use Rattle.format.specs.SkipEntry.{has_freq_of}
 use Rattle.format.specs.Values.{rising, countable}
 use Rattle.format.specs.Written.{image}
 use Rattle.format.specs.Accepted.{kept_in, begin, take_doc, take_docs, written, Accepted}
+use Rattle.format.specs.Refusal.{number_of}
 use Rattle.format.specs.Reading.{soundness}
 use Rattle.format.proofs.Accepted.{known_mode_lem, written-ok}
 use Rattle.format.proofs.Choice.{granted}
@@ -35,7 +36,7 @@ use Rattle.segment_postings.proofs.Admission.AdmissionExact.{admission_admits, a
 use Rattle.postings.specs.FirstPromise.{Acceptable}
 use Rattle.postings.specs.WriterCalls.{Hands, Closes}
 use Rattle.postings.proofs.WriterManners.{hands_gives, gives-no, closes_as}
-use Rattle.postings.proofs.WriterNumbers.{zero-bytes, bytes-numbers, above-no, above-refused}
+use Rattle.postings.proofs.WriterNumbers.{zero-yes, zero-bytes, bytes-numbers, above-no, above-refused}
 
 -- ---- accepted lists
 
@@ -105,11 +106,29 @@ pub image_admitted : (mode count : ℕ) (bs : List ℕ) {answer : Outcome (Unit 
     × ((r : Refusal) → (answer ≡ Err r) ↔ Meets bs (record { mode = mode; requested = 1; count = count }) r)
 image_admitted mode count bs e = rw e (admission_admits mode count bs, admission_refuses mode count bs)
 
+-- the same of the number that `vilthorwy_validate` answers: 0 exactly where they meet no refusal, and any other number exactly where the
+-- first refusal that they meet carries it
+pub admitted_number : (mode count : ℕ) (bs : List ℕ) {n : ℕ} → n ≡ accepted_number (soundness mode count bs)
+    → ((n ≡ 0) ↔ MeetsNone bs (record { mode = mode; requested = 1; count = count }))
+    × ((k : ℕ) → 0 < k → (n ≡ k) ↔ ((r : Refusal) × (number_of r ≡ k) × Meets bs (record { mode = mode; requested = 1; count = count }) r))
+unfolding accepted_number
+admitted_number mode count bs {n} e =
+    let sound : Outcome (Unit {0}) = soundness mode count bs in
+    let of_answer = image_admitted mode count bs refl in (
+      (λ none. of_answer.0.0 (zero-yes sound (sym e ∙ none)), λ none. e ∙ rw (of_answer.0.1 none)),
+      λ k above. (
+        λ is.
+            let refused = above-no sound (omega (arith, e, is)) in
+            (refused.0, refused.1 ∙ sym e ∙ is, (of_answer.1 refused.0).0 refused.2),
+        λ met. e ∙ rw ((of_answer.1 met.0).1 met.2) met.1,
+      ),
+    )
+
 -- ---- refusals leave all as it was; those of the cursor are `refused-stays` in ThirdPromise.antt
 
 -- a document, in either manner: any answer but 0
 pub refused_document : {d f : ℕ} {a b : Areas} {answer : Outcome (Unit {0})} → Hands d f a answer b → 0 < accepted_number answer → b ≡ a
-refused_document {answer = answer} h above = gives-no (hands_gives h) (above-no answer above).1
+refused_document {answer = answer} h above = gives-no (hands_gives h) (above-no answer above).2
 
 -- closing, in either manner
 pub refused-closing : {announced : ℕ} {a : Areas} {output output' : List ℕ} {answer : Outcome ℕ} {last : PostingsSerializer} {n : ℕ}
@@ -117,7 +136,7 @@ pub refused-closing : {announced : ℕ} {a : Areas} {output output' : List ℕ} 
 unfolding or_before
 refused-closing {answer = answer} k above e =
     let c = closes_as k in
-    let no = answered-refused length _ c.answered_as (above-refused answer above e).1 in
+    let no = answered-refused length _ c.answered_as (above-refused answer above e).2 in
     (c.stays no, rw no at c.output_after)
 
 -- a whole list, by `write_list`
@@ -126,5 +145,5 @@ pub refused-list : (mode : ℕ) (recording : Bool) (ds fs skips postings output 
     → (skips' ≡ skips) × (postings' ≡ postings) × (output' ≡ output)
 unfolding or_before
 refused-list mode recording ds fs skips postings output {r = r} h above e =
-    let no = answered-refused length (listing mode recording ds fs skips postings output) h.answer (above-refused r above e).1 in
+    let no = answered-refused length (listing mode recording ds fs skips postings output) h.answer (above-refused r above e).2 in
     (rw no at h.skips_after, rw no at h.postings_after, rw no at h.output_after)

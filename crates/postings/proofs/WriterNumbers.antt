@@ -49,12 +49,12 @@ pub bytes-numbers : {a : Outcome ℕ} {n : ℕ} → a ≡ Ok n → written_numbe
 unfolding written_numbers
 bytes-numbers e = rw e
 
-pub above-no : (a : Outcome (Unit {0})) → 0 < accepted_number a → (r : Refusal) × (a ≡ Err r)
+pub above-no : (a : Outcome (Unit {0})) → 0 < accepted_number a → (r : Refusal) × (number_of r ≡ accepted_number a) × (a ≡ Err r)
 unfolding accepted_number
 above-no (Ok tt) h = absurd (omega arith)
-above-no (Err r) h = (r, refl)
+above-no (Err r) h = (r, refl, refl)
 
-pub above-refused : (a : Outcome ℕ) {k : ℕ} → 0 < k → written_numbers a ≡ k ∷ 0 ∷ [] → (r : Refusal) × (a ≡ Err r)
+pub above-refused : (a : Outcome ℕ) {k : ℕ} → 0 < k → written_numbers a ≡ k ∷ 0 ∷ [] → (r : Refusal) × (number_of r ≡ k) × (a ≡ Err r)
 unfolding written_numbers
 above-refused (Ok n) h e = absurd (let z = ap (λ xs. get_or xs 0 0) e in omega arith)
-above-refused (Err r) h e = (r, refl)
+above-refused (Err r) h e = (r, ap (λ xs. get_or xs 0 0) e, refl)
