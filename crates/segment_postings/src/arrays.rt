@@ -117,7 +117,7 @@ pub fn answer_at(
 impl FoundBlock<'_> {
     // Unpacks the block, and goes to its first place: questions 6 to 9. What a refusal leaves in the arrays, here and in all that
     // goes by this, isn't told: whoever may not lose them lends two of its own.
-    fn unpack(&self, docs: &mut [u32; 128], freqs: &mut [u32; 128]) -> Result<Held, Refusal>
+    fn unpack_found(&self, docs: &mut [u32; 128], freqs: &mut [u32; 128]) -> Result<Held, Refusal>
         ensures { Lands (loaded self.now.laid.term self.now.laid.layout self.now.laid.image.now self.now.found self.now.unpacked) docs.new freqs.new result }
     {
         let loaded = self.load(docs, freqs)?;
@@ -152,7 +152,7 @@ impl LaidImage<'_> {
             found,
             unpacked: from.unpacked,
         };
-        block.unpack(docs, freqs)
+        block.unpack_found(docs, freqs)
     }
 
     // Block 0, before anything is read.

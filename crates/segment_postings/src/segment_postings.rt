@@ -83,12 +83,14 @@ fn value_at(
     Ok(values[held.place] as u64)
 }
 
-// The document at the position, TERMINATED at the end. It and the next are public calls by one function.
+// The document at the position, TERMINATED at the end. It and the next are public calls by one function. The array is copied apart, so that
+// the compiler doesn't copy the whole cursor to lend it.
 #[tactic(auto, unfolding(crate::specs::Cursor::doc_at))]
 pub fn doc(cursor: SegmentPostings, image: &[u8], term: Term) -> Result<u64, Refusal>
     ensures { result ≡ doc_at cursor image.now term }
 {
-    value_at(&cursor.docs, TERMINATED, cursor.held, image, term)
+    let docs = cursor.docs;
+    value_at(&docs, TERMINATED, cursor.held, image, term)
 }
 
 // The frequency at the position, 0 at the end.
@@ -96,5 +98,6 @@ pub fn doc(cursor: SegmentPostings, image: &[u8], term: Term) -> Result<u64, Ref
 pub fn term_freq(cursor: SegmentPostings, image: &[u8], term: Term) -> Result<u64, Refusal>
     ensures { result ≡ freq_at cursor image.now term }
 {
-    value_at(&cursor.freqs, 0, cursor.held, image, term)
+    let freqs = cursor.freqs;
+    value_at(&freqs, 0, cursor.held, image, term)
 }

@@ -12,7 +12,7 @@ invariant_of-block c =
     record { there = (there, c.requires.1, omega (arith, there.bytes)) }
 
 pub returns : goal.returns
-returns c = lands_as (landing-found _ _ _ _ _ (sym c.in_ok-found.ensures)) c.unpack.ensures
+returns c = lands_as (landing-found _ _ _ _ _ (sym c.in_ok-found.ensures)) c.unpack_found.ensures
 
 pub returns-in_err-found : goal.returns-in_err-found
 returns-in_err-found c =

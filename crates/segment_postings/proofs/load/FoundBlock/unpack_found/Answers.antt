@@ -1,10 +1,10 @@
--- `segment_postings::load::FoundBlock::unpack` meets its contract: what `load_block` leaves in the arrays is the cursor's, and its answer
+-- `segment_postings::load::FoundBlock::unpack_found` meets its contract: what `load_block` leaves in the arrays is the cursor's, and its answer
 -- with the numbers of the block found makes the cursor's numbers.
 -- Assumes nothing.
 use Rattle.std.proofs.Common.{arith}
 use Rattle.segment_postings.proofs.Laws.Exits.{passed_on}
 use Rattle.segment_postings.proofs.Laws.LandingParts.{first, unpacked_there, unpacked_refused}
-use Rattle.segment_postings.proofs.load.FoundBlock.unpack.Goals as goal
+use Rattle.segment_postings.proofs.load.FoundBlock.unpack_found.Goals as goal
 
 pub overflow_add-result : goal.overflow_add-result
 overflow_add-result c = omega (arith, c.block_size.ensures, c.args.self.now.there.2)
