@@ -15,7 +15,7 @@ use Rattle.format.specs.SkipEntry.{has_freq_of}
 use Rattle.format.specs.Values.{gaps_from}
 use Rattle.format.specs.Vint.{vint, vints}
 use Rattle.format.specs.Written.{only_if, head_of, tail_of_of, image_with}
-use Rattle.format.proofs.Area.{put_at-nil, put_at-append, put_at-refused, next_at-fits, length-put_at}
+use Rattle.format.proofs.Area.{put_at-nil, put_at-append, put_at-refused, next_at-fits, length-put_at, fits-front}
 use Rattle.std.specs.Option.{IsSome}
 use Rattle.std.proofs.lemmas.Option.{same_Some}
 use Rattle.serializer.specs.Pieces.{BytesPut, ImagePut}
@@ -76,6 +76,11 @@ pub put_next : (p : ℕ) (bs area : List ℕ) {area' : List ℕ} {next : Option 
     → next ≡ next_at p bs area → area' ≡ put_at p bs area → BytesPut p bs area area' r
 put_next p bs area h place next put =
     record { behind = same_Some _ _ (sym place ∙ (next ∙ next_at-fits p bs area h)); area_after = put }
+
+-- of two pieces that fit together the first is put
+pub put_first : {p : ℕ} {a : List ℕ} (b : List ℕ) {area area' : List ℕ} {next : Option ℕ} {r : ℕ} → p + length (a ++ b) ≤ length area
+    → next ≡ Some r → next ≡ next_at p a area → area' ≡ put_at p a area → BytesPut p a area area' r
+put_first b h = put_next _ _ _ (fits-front _ _ b _ h)
 
 module _ (p : ℕ) (a b area : List ℕ) {middle : List ℕ} {m : ℕ} (h : p + length (a ++ b) ≤ length area) (first : BytesPut p a area middle m) where
   pub room-behind : m + length b ≤ length middle
